@@ -1,3 +1,4 @@
 //! The tests of view_ribbon.
 mod drawing;
+mod lines;
 mod rooms;

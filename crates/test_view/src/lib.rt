@@ -3,9 +3,13 @@
 #![tactic(auto)]
 
 #[cfg(test)]
+mod comparing;
+#[cfg(test)]
 mod holes;
 #[cfg(test)]
 mod metal;
+#[cfg(test)]
+mod notes;
 #[cfg(test)]
 mod outputs;
 #[cfg(test)]

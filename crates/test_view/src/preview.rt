@@ -1,8 +1,10 @@
-//! The tests of view_punch.
+//! The tests of view_punch and view_preview.
 mod faults;
 mod finding;
+mod located;
 mod proofing;
 mod punching;
 mod rooms;
 mod targets;
+mod texts;
 mod words;

@@ -1,4 +1,4 @@
 //! The tests of view_ribbon.
 mod reading;
-mod rooms;
+pub mod rooms;
 mod words;

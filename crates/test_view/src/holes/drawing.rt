@@ -1,11 +1,11 @@
-use crate::holes::rooms::{OLD, TARGET, memory, rooms};
+use crate::holes::rooms::{FROM, OLD, TARGET, memory, rooms};
 use feed_files::trial::TrialFiles;
 use feed_files::{FileRefusal, Kind, Target};
 use linked_list_allocator::LocalHeap;
 use script_answers::{Memory, Refusal};
 use std::alloc::Global;
 use std::test::Fail;
-use view_ribbon::{ReadingFault, draw_ribbon};
+use view_ribbon::{ReadingFault, Sources, draw_ribbon};
 
 /// Eight rows at 13 each: the picture is 174 high, its paper 110, and that ends at 160.
 const FRONT: &[u8] =
@@ -51,8 +51,13 @@ enum End {
 /// Draws a ribbon, after which the target has the picture where it is drawn, and else what it had.
 fn drawn(alloc: Global, k: u64, names: (&str, &str, &str)) -> Result<End, Fail> {
     let (ribbon, case, wedge) = names;
+    let from = Sources {
+        ribbon,
+        case,
+        wedge,
+    };
     let mut files = rooms(alloc, k)?;
-    let end = match draw_ribbon(memory(alloc), &mut files, ribbon, case, wedge, &TARGET) {
+    let end = match draw_ribbon(memory(alloc), &mut files, &from, None, &TARGET) {
         Ok(true) => End::Drawn,
         Ok(false) => End::NoRibbon,
         Err(fault) => End::Fault(fault),
@@ -113,7 +118,7 @@ fn drawn_over(alloc: Global, old: &[u8], force: bool) -> Result<End, Fail> {
         name: "a.svg",
         force,
     };
-    let end = match draw_ribbon(memory(alloc), &mut files, "ribbon", "c", "w", &target) {
+    let end = match draw_ribbon(memory(alloc), &mut files, &FROM, None, &target) {
         Ok(stored) if stored && is_drawn(&files) => End::Drawn,
         Ok(_) => return Err(Fail::new("no picture")),
         Err(fault) if files.holds("a.svg", old) => End::Fault(fault),
@@ -156,7 +161,7 @@ fn is_refused(alloc: Global, cut: usize) -> Result<bool, Fail> {
         own: &heap,
         global: alloc,
     };
-    let ended = draw_ribbon(cut_memory, &mut files, "ribbon", "c", "w", &TARGET);
+    let ended = draw_ribbon(cut_memory, &mut files, &FROM, None, &TARGET);
     drop(ballast);
     match ended {
         Ok(true) if is_drawn(&files) => Ok(false),

@@ -7,11 +7,15 @@ use linked_list_allocator::LocalHeap;
 use script_answers::{Memory, Refusal};
 use std::alloc::{AllocError, Allocator, Global};
 use std::test::Fail;
-use view_picture::picture_feed;
-use view_punch::{PreviewFault, Sources, no_trial};
+use view_picture::picture_job;
+use view_preview::{Job, PreviewFault, Source, no_trial, trial_of};
 
 /// What stands under the target before a picture is stored there.
 const OLD: &[u8] = b"<svg old";
+
+/// What the picture of a text by no settings ends with.
+const FEW: &str =
+    "<text class=\"c\" x=\"10.00\" y=\"20.00\">no galley: the settings measure, tight and loose have no value</text>\n</svg>\n";
 
 /// What the picture of a feed without settings ends with.
 const NONE: &str =
@@ -40,6 +44,7 @@ fn rooms(alloc: Global, k: u64) -> Result<TrialFiles<Global>, Fail> {
     files.put("none.feed", b"MFD2")?;
     files.put("c", case_text(alloc)?.as_bytes())?;
     files.put("w", WEDGE.as_bytes())?;
+    files.put("text", b"nn n")?;
     files.put("a.svg", OLD)?;
     Ok(files)
 }
@@ -53,9 +58,9 @@ fn ends_with(files: &TrialFiles<Global>, bytes: &[u8]) -> bool {
 }
 
 /// A feed as it is, a case and a wedge.
-fn sources<'a>(feed: &'a str, case: &'a str, wedge: &'a str) -> Sources<'a> {
-    Sources {
-        version: Version::whole(feed),
+fn job<'a>(feed: &'a str, case: &'a str, wedge: &'a str) -> Job<'a> {
+    Job {
+        source: Source::Feed(Version::whole(feed)),
         case,
         wedge,
     }
@@ -75,10 +80,10 @@ fn pictured<A: Allocator + Copy>(
         name: "a.svg",
         force: false,
     };
-    let ended = picture_feed(
+    let ended = picture_job(
         memory,
         &mut files,
-        &sources(feed, "c", "w"),
+        &job(feed, "c", "w"),
         &no_trial(),
         &target,
     );
@@ -117,6 +122,41 @@ fn files_that_fail_under_a_picture(rt: HostRuntime) -> Result<(), Fail> {
     Ok(())
 }
 
+/// A text is drawn as the same copy of a feed by the same settings.
+#[test]
+fn pictures_of_texts_are_stored(rt: HostRuntime) -> Result<(), Fail> {
+    let alloc = rt.alloc();
+    for (sets, end) in [
+        (["measure=120", "tight=38", "loose=150"].as_slice(), LINE),
+        ([].as_slice(), FEW),
+    ] {
+        let mut files = rooms(alloc, 0)?;
+        let memory = Memory {
+            own: alloc,
+            global: alloc,
+        };
+        let target = Target {
+            name: "a.svg",
+            force: false,
+        };
+        let text = Job {
+            source: Source::Text {
+                name: "text",
+                plain: false,
+            },
+            case: "c",
+            wedge: "w",
+        };
+        let Ok(trial) = trial_of(alloc, sets) else {
+            return Err(Fail::new("no trial"));
+        };
+        let ended = picture_job(memory, &mut files, &text, &trial, &target);
+        assert_eq!(rt; ended, Ok(()));
+        assert!(rt; ends_with(&files, end.as_bytes()));
+    }
+    Ok(())
+}
+
 /// Draws the feed that is set over a file, which is replaced or left: why it is.
 fn drawn_over(alloc: Global, old: &[u8], force: bool) -> Result<Option<PreviewFault>, Fail> {
     let mut files = rooms(alloc, 0)?;
@@ -129,10 +169,10 @@ fn drawn_over(alloc: Global, old: &[u8], force: bool) -> Result<Option<PreviewFa
         name: "a.svg",
         force,
     };
-    let ended = picture_feed(
+    let ended = picture_job(
         memory,
         &mut files,
-        &sources("set.feed", "c", "w"),
+        &job("set.feed", "c", "w"),
         &no_trial(),
         &target,
     );
@@ -170,10 +210,10 @@ fn picture_over_its_own(rt: HostRuntime) -> Result<(), Fail> {
             own: alloc,
             global: alloc,
         };
-        let ended = picture_feed(
+        let ended = picture_job(
             memory,
             &mut files,
-            &sources(feed, "c", "w"),
+            &job(feed, "c", "w"),
             &no_trial(),
             &target,
         );

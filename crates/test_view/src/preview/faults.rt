@@ -7,7 +7,8 @@ use linked_list_allocator::LocalHeap;
 use script_answers::Memory;
 use std::alloc::Global;
 use std::test::Fail;
-use view_punch::{PreviewFault, punch_feed};
+use view_preview::PreviewFault;
+use view_punch::punch_feed;
 
 /// The line of the faults of both feeds: a delete whose target is not held, and one whose target is a setting.
 const COPY_LINE: &[u8] = b"faults waiting 40.1, void 41.1\n";

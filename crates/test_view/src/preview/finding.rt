@@ -7,7 +7,8 @@ use script_answers::{Memory, Refusal};
 use std::alloc::Global;
 use std::test::Fail;
 use text_copy::{Cause, TextFault};
-use view_punch::{PreviewFault, Wanted, find_text};
+use view_preview::PreviewFault;
+use view_punch::{Wanted, find_text};
 
 /// The files of a case and a wedge.
 const METAL: Option<(&str, &str)> = Some(("c", "w"));

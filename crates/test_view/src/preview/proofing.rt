@@ -1,12 +1,13 @@
-use crate::preview::rooms::{OLD, memory, rooms, sources};
+use crate::preview::rooms::{OLD, job, memory, rooms};
 use feed_edit::{FeedTrouble, Version};
 use feed_files::FileRefusal;
 use feed_files::trial::{AtEnd, TrialWriter};
 use script_answers::Refusal;
 use std::alloc::Global;
 use std::test::Fail;
-use view_proof::Extent;
-use view_punch::{PreviewFault, Sources, TrialFault, no_trial, proof_feed, trial_of};
+use view_preview::{
+    Form, Job, Manner, PreviewFault, Source, TrialFault, no_trial, proof_job, trial_of,
+};
 
 /// The galley of one empty paragraph: its wedge sum is 127 of 38 to 150, and ten fills stand in it.
 const SET: &str = "GALLEY 1 lines, 0 at fault, measure 120 points, tight 38, loose 150\n\
@@ -69,18 +70,23 @@ struct Left {
     ended: Result<bool, PreviewFault>,
 }
 
+/// A form without second looks.
+fn plainly(form: Form) -> Manner {
+    Manner { form, looks: false }
+}
+
 /// Writes a proof, of which nothing is written where it ends with a fault; the files stay.
-fn proofed(alloc: Global, k: u64, names: (&str, &str, &str), extent: Extent) -> Result<Left, Fail> {
+fn proofed(alloc: Global, k: u64, names: (&str, &str, &str), form: Form) -> Result<Left, Fail> {
     let (feed, case, wedge) = names;
     let mut files = rooms(alloc, k)?;
     let mut written = Vec::new(alloc);
-    let ended = proof_feed(
+    let ended = proof_job(
         memory(alloc),
         &mut written,
         &mut files,
-        &sources(feed, case, wedge),
+        &job(feed, case, wedge),
         &no_trial(),
-        extent,
+        plainly(form),
     );
     if !files.holds("a.ribbon", OLD) || files.bytes_of("a.ribbon.new").is_some() {
         return Err(Fail::new("a file changed"));
@@ -92,41 +98,35 @@ fn proofed(alloc: Global, k: u64, names: (&str, &str, &str), extent: Extent) -> 
 }
 
 /// Whether a feed has this proof, and is clean or not.
-fn has_proof(
-    alloc: Global,
-    feed: &str,
-    extent: Extent,
-    text: &str,
-    clean: bool,
-) -> Result<bool, Fail> {
-    let proof = proofed(alloc, 0, (feed, "c", "w"), extent)?;
+fn has_proof(alloc: Global, feed: &str, form: Form, text: &str, clean: bool) -> Result<bool, Fail> {
+    let proof = proofed(alloc, 0, (feed, "c", "w"), form)?;
     Ok(proof.written.as_slice() == text.as_bytes() && proof.ended == Ok(clean))
 }
 
 #[test]
 fn proofs_are_written(rt: HostRuntime) -> Result<(), Fail> {
-    assert!(rt; has_proof(rt.alloc(), "set.feed", Extent::Whole, SET, true)?);
-    assert!(rt; has_proof(rt.alloc(), "loose.feed", Extent::Faults, LOOSE, false)?);
-    assert!(rt; has_proof(rt.alloc(), "above.feed", Extent::Whole, ABOVE, true)?);
-    assert!(rt; has_proof(rt.alloc(), "lone.feed", Extent::Faults, LONE, false)?);
-    assert!(rt; has_proof(rt.alloc(), "styles.feed", Extent::Whole, STYLES, true)?);
-    assert!(rt; has_proof(rt.alloc(), "none.feed", Extent::Whole, NONE, false)?);
+    assert!(rt; has_proof(rt.alloc(), "set.feed", Form::Whole, SET, true)?);
+    assert!(rt; has_proof(rt.alloc(), "loose.feed", Form::Faults, LOOSE, false)?);
+    assert!(rt; has_proof(rt.alloc(), "above.feed", Form::Whole, ABOVE, true)?);
+    assert!(rt; has_proof(rt.alloc(), "lone.feed", Form::Faults, LONE, false)?);
+    assert!(rt; has_proof(rt.alloc(), "styles.feed", Form::Whole, STYLES, true)?);
+    assert!(rt; has_proof(rt.alloc(), "none.feed", Form::Whole, NONE, false)?);
     Ok(())
 }
 
 #[test]
 fn proofs_without_a_galley(rt: HostRuntime) -> Result<(), Fail> {
-    assert!(rt; has_proof(rt.alloc(), "few.feed", Extent::Whole, FEW, false)?);
-    assert!(rt; has_proof(rt.alloc(), "other.feed", Extent::Faults, OTHER, false)?);
-    assert!(rt; has_proof(rt.alloc(), "wedge.feed", Extent::Whole, OTHER_WEDGE, false)?);
+    assert!(rt; has_proof(rt.alloc(), "few.feed", Form::Whole, FEW, false)?);
+    assert!(rt; has_proof(rt.alloc(), "other.feed", Form::Faults, OTHER, false)?);
+    assert!(rt; has_proof(rt.alloc(), "wedge.feed", Form::Whole, OTHER_WEDGE, false)?);
     Ok(())
 }
 
 /// A symbol that the case lacks is a fault, though its line is set.
 #[test]
 fn lacking_symbol_is_not_clean(rt: HostRuntime) -> Result<(), Fail> {
-    assert!(rt; has_proof(rt.alloc(), "lacking.feed", Extent::Faults, LACKING, false)?);
-    assert!(rt; has_proof(rt.alloc(), "marked.feed", Extent::Faults, MARKED, false)?);
+    assert!(rt; has_proof(rt.alloc(), "lacking.feed", Form::Faults, LACKING, false)?);
+    assert!(rt; has_proof(rt.alloc(), "marked.feed", Form::Faults, MARKED, false)?);
     Ok(())
 }
 
@@ -136,7 +136,7 @@ fn fault_of(
     k: u64,
     names: (&str, &str, &str),
 ) -> Result<Option<PreviewFault>, Fail> {
-    let proof = proofed(alloc, k, names, Extent::Whole)?;
+    let proof = proofed(alloc, k, names, Form::Whole)?;
     Ok(proof.ended.err())
 }
 
@@ -164,13 +164,13 @@ fn sources_that_give_no_proof(rt: HostRuntime) -> Result<(), Fail> {
 fn closed_output_of_a_proof(rt: HostRuntime) -> Result<(), Fail> {
     let mut files = rooms(rt.alloc(), 0)?;
     let mut writer = TrialWriter::new(rt.alloc()).with_room(5, AtEnd::Fails);
-    let ended = proof_feed(
+    let ended = proof_job(
         memory(rt.alloc()),
         &mut writer,
         &mut files,
-        &sources("loose.feed", "c", "w"),
+        &job("loose.feed", "c", "w"),
         &no_trial(),
-        Extent::Faults,
+        plainly(Form::Faults),
     );
     assert_eq!(rt; ended, Err(PreviewFault::Write));
     assert!(rt; LOOSE.as_bytes().starts_with(writer.written()));
@@ -186,16 +186,16 @@ fn settings_are_tried(rt: HostRuntime) -> Result<(), Fail> {
         Ok(trial) => trial,
         Err(_) => return Err(Fail::new("no trial")),
     };
-    let ended = proof_feed(
+    let ended = proof_job(
         memory(rt.alloc()),
         &mut written,
         &mut files,
-        &sources("loose.feed", "c", "w"),
+        &job("loose.feed", "c", "w"),
         &trial,
-        Extent::Faults,
+        plainly(Form::Faults),
     );
     assert_eq!(rt; ended, Ok(true));
-    assert!(rt; has_proof(rt.alloc(), "loose.feed", Extent::Faults, LOOSE, false)?);
+    assert!(rt; has_proof(rt.alloc(), "loose.feed", Form::Faults, LOOSE, false)?);
     Ok(())
 }
 
@@ -204,21 +204,22 @@ fn settings_are_tried(rt: HostRuntime) -> Result<(), Fail> {
 fn galley_as_it_was(rt: HostRuntime) -> Result<(), Fail> {
     let mut files = rooms(rt.alloc(), 0)?;
     let mut written = Vec::new(rt.alloc());
-    let from = Sources {
-        version: Version {
-            feed: "loose.feed",
-            until: Some(4),
-        },
+    let version = Version {
+        feed: "loose.feed",
+        until: Some(4),
+    };
+    let from = Job {
+        source: Source::Feed(version),
         case: "c",
         wedge: "w",
     };
-    let ended = proof_feed(
+    let ended = proof_job(
         memory(rt.alloc()),
         &mut written,
         &mut files,
         &from,
         &no_trial(),
-        Extent::Faults,
+        plainly(Form::Faults),
     );
     assert_eq!(rt; ended, Ok(false));
     assert!(rt; written.as_slice() == b"no galley: the setting wedge has no value\n".as_slice());

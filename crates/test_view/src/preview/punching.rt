@@ -6,8 +6,9 @@ use linked_list_allocator::LocalHeap;
 use script_answers::{Memory, Refusal};
 use std::alloc::Global;
 use std::test::Fail;
+use view_preview::PreviewFault;
 use view_proof::OtherNumber;
-use view_punch::{PreviewFault, punch_feed};
+use view_punch::punch_feed;
 
 /// The ribbon of one empty paragraph: the head, an added space, nine fills and one, and the wedges at 8 and 7.
 pub const RIBBON: &[u8] =

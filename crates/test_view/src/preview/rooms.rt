@@ -6,7 +6,7 @@ use feed_files::Target;
 use feed_files::trial::TrialFiles;
 use script_answers::Memory;
 use std::alloc::{AllocError, Global};
-use view_punch::Sources;
+use view_preview::{Job, Source, Sources};
 
 /// What stands under the target before a ribbon is stored there.
 pub const OLD: &[u8] = b"MRB1 old";
@@ -157,6 +157,15 @@ pub fn rooms(alloc: Global, k: u64) -> Result<TrialFiles<Global>, AllocError> {
 pub fn sources<'a>(feed: &'a str, case: &'a str, wedge: &'a str) -> Sources<'a> {
     Sources {
         version: Version::whole(feed),
+        case,
+        wedge,
+    }
+}
+
+/// The same for a proof.
+pub fn job<'a>(feed: &'a str, case: &'a str, wedge: &'a str) -> Job<'a> {
+    Job {
+        source: Source::Feed(Version::whole(feed)),
         case,
         wedge,
     }

@@ -5,7 +5,8 @@ use crate::preview::rooms::{memory, rooms, sources};
 use feed_files::{FileRefusal, Kind, Target};
 use std::alloc::Global;
 use std::test::Fail;
-use view_punch::{PreviewFault, punch_feed};
+use view_preview::PreviewFault;
+use view_punch::punch_feed;
 
 /// Punches over what stands under a name, of which the k-th call fails: the ribbon stands there afterwards, or what
 /// did.

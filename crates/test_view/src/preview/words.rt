@@ -1,20 +1,21 @@
-//! The texts of faults, of view_punch and of settings that are tried.
+//! The texts of faults, of previews and of settings that are tried.
 
 use feed_edit::FeedTrouble;
 use feed_files::{FileRefusal, Kind};
 use script_answers::Refusal;
 use std::alloc::{AllocError, Global};
 use text_copy::{Cause, TextFault};
+use view_preview::{PreviewFault, TrialFault};
 use view_proof::OtherNumber;
-use view_punch::{PreviewFault, TrialFault};
 
 /// Of a feed they are those of its trouble.
-const WORDS: [(PreviewFault, &str); 11] = [
+const WORDS: [(PreviewFault, &str); 12] = [
     (
         PreviewFault::Feed(FeedTrouble::File(FileRefusal::Missing)),
         "file fault",
     ),
     (PreviewFault::Feed(FeedTrouble::Full), "full"),
+    (PreviewFault::TooLong, "too long"),
     (PreviewFault::Input(Refusal::Wedge(4)), "input refused"),
     (PreviewFault::CopyFaults, "copy faults"),
     (PreviewFault::Faulty(None), "no ribbon"),

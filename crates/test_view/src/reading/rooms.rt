@@ -13,6 +13,26 @@ const SMALL: &[u8] =
 const LINES: &[u8] =
     b"MRB1\0\0\0\x0a\0\0\x02\x06\x40\0\x02\0\x01\x01\0\x01\x40\0\x20\0\0\0\x20\x02\0\0\0\x86\x20\0\x10\0\0\0\0\0\0\0\x40\x02\0\0\x02\x06";
 
+/// The same, but for the fine wedge of the second line, which is at 7; and n, and the wedges at 3 and 8.
+const MORE: &[u8] =
+    b"MRB1\0\0\0\x0d\0\0\x02\x06\x40\0\x02\0\x01\x01\0\x01\x40\0\x20\0\0\0\x20\x02\0\0\0\x86\x20\0\x10\0\0\0\0\0\0\0\x40\x02\0\0\x04\x06\x40\0\x02\0\0\0\x40\x02\0\0\x02\x06";
+
+/// The first ribbon with the fill A5 for O15.
+const FILLS: &[u8] =
+    b"MRB1\0\0\0\x0a\0\0\x02\x06\x40\0\x02\0\x01\x01\0\x01\x40\0\x20\0\0\0\x20\x02\0\0\0\x86\x20\0\x10\0\x40\0\x10\0\0\0\x40\x02\0\0\x02\x06";
+
+/// The first ribbon with a space that has no S.
+const FIXED: &[u8] =
+    b"MRB1\0\0\0\x0a\0\0\x02\x06\x40\0\x02\0\x01\x01\0\0\x40\0\x20\0\0\0\x20\x02\0\0\0\x86\x20\0\x10\0\0\0\0\0\0\0\x40\x02\0\0\x02\x06";
+
+/// The first ribbon with the coarse wedge of the first line at 3.
+const COARSE: &[u8] =
+    b"MRB1\0\0\0\x0a\0\0\x02\x06\x40\0\x02\0\x01\x01\0\x01\x40\0\x20\0\0\0\x40\x02\0\0\0\x86\x20\0\x10\0\0\0\0\0\0\0\x40\x02\0\0\x02\x06";
+
+/// The head; twice a, and the wedges at 3 and 8.
+const TWINS: &[u8] =
+    b"MRB1\0\0\0\x07\0\0\x02\x06\x20\0\x10\0\0\0\x40\x02\0\0\x02\x06\x20\0\x10\0\0\0\x40\x02\0\0\x02\x06";
+
 /// The head; a space, and the wedges at 1 and 1.
 const SPACE: &[u8] = b"MRB1\0\0\0\x04\0\0\x02\x06\x01\x01\0\x01\0\x01\0\x02\0\x01\0\x06";
 
@@ -20,6 +40,12 @@ const SPACE: &[u8] = b"MRB1\0\0\0\x04\0\0\x02\x06\x01\x01\0\x01\0\x01\0\x02\0\x0
 pub fn rooms(alloc: Global, k: u64) -> Result<TrialFiles<Global>, AllocError> {
     let mut files = TrialFiles::new(alloc).failing_at_call(k);
     files.put("lines", LINES)?;
+    files.put("more", MORE)?;
+    files.put("fills", FILLS)?;
+    files.put("fixed", FIXED)?;
+    files.put("coarse", COARSE)?;
+    files.put("twins", TWINS)?;
+    files.put("\x1b.rib", LINES)?;
     files.put("space", SPACE)?;
     files.put("head", b"MRB1\0\0\0\x01\0\0\x02\x06")?;
     files.put("feed", b"MFD2\0\0\0\0")?;

@@ -6,7 +6,8 @@ use linked_list_allocator::LocalHeap;
 use script_answers::{Memory, Refusal};
 use std::alloc::Global;
 use std::test::Fail;
-use view_punch::{PreviewFault, report_sorts};
+use view_preview::PreviewFault;
+use view_punch::report_sorts;
 
 /// The nine symbols have six sorts and a line feed; `é` stands at places 4 and 7.
 const LACKING: &str = "SORTS 6 kinds, 8 wanted, 1 missing\n\

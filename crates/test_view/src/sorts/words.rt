@@ -4,7 +4,7 @@ use feed_edit::FeedTrouble;
 use feed_files::FileRefusal;
 use script_answers::Refusal;
 use std::alloc::{AllocError, Global};
-use view_punch::PreviewFault;
+use view_preview::PreviewFault;
 
 /// Of a feed they are those of its trouble.
 const WORDS: [(PreviewFault, &str); 5] = [
