@@ -31,6 +31,7 @@ LIMIT = 60.0  # seconds, in which each run ends; one alone takes a hundredth of 
 SHORT = 0  # a read or a write moves fewer bytes
 PAGE = 4096
 METAL = "--case case12.toml --wedge wedge5.toml"
+SET = "--set measure=198 --set tight=40 --set loose=240 "
 ROOM = "copydesk.toml"
 TEXT = ("The sheets are in the galleys again, and the formes of the second volume will be worked on Thursday. Orders for "
         "the third are to reach us before the month is out; those that come later will be met from the _second_ printing.\n") * 2
@@ -84,10 +85,17 @@ JOBS = (
     Job("proof hand.feed " + METAL, None, "", 0, "GALLEY "),
     Job("proof hand.feed --svg galley.svg " + METAL, "galley.svg", "", 0, "GALLEY "),
     Job("proof hand.feed --set measure=150 --svg made.svg " + METAL, "made.svg", "", 1, "GALLEY "),
+    Job("proof hand.feed --format gcc --warn --set measure=150 " + METAL, None, "", 1, "hand.feed:1:"),
+    Job("proof --text letter.txt --warn " + SET + METAL, None, "", 0, "GALLEY "),
+    Job("proof --text letter.txt --format gcc --warn --svg text.svg " + SET + METAL, "text.svg", "", 0, "letter.txt:1:4: warning: two spaces\n"),
+    Job("proof --text letter.txt --plain " + SET + "--wedge wedge5.toml", None, "", 1, "GALLEY "),
     Job("punch hand.feed -o new.rib " + METAL, "new.rib"),
     Job("punch other.feed -o made.rib " + METAL, "made.rib"),
     Job("read made.rib " + METAL, None, "", 0, "RIBBON "),
     Job("read made.rib --svg holes.svg " + METAL, "holes.svg", "", 0, "RIBBON "),
+    Job("read made.rib --lines 2..3 --svg some.svg " + METAL, "some.svg", "", 0, "RIBBON "),
+    Job("read made.rib --stats " + METAL, None, "", 0, "RIBBON "),
+    Job("diff made.rib other.rib " + METAL, None, "", 1, "made.rib 12 lines, other.rib 12 lines, "),
     Job("sorts hand.feed --case case12.toml --layout", None, "", 0, "SORTS "),
     Job("sorts hand.feed", None, "", 0, "SORTS "),
     Job("import room.feed", "room.feed", "Send _word_.\n", 0, "ok inserted 11 deleted 0\n"),
@@ -257,7 +265,9 @@ def base(bench):
     made("import older.feed --site 1", "Send word soon.\n")
     put(older, before)
     made("punch hand.feed -o made.rib " + METAL)
+    made("punch other.feed -o other.rib " + METAL)
     made("proof hand.feed --svg made.svg " + METAL)
+    put(os.path.join(bench.room, "letter.txt"), TEXT.replace(" ", "  ", 1).encode())
     return stored(seen(bench.room))
 
 

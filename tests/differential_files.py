@@ -1,12 +1,14 @@
 """Random commands on files, for differential.py: merges with and without forks, imports around their limits, replacements,
 renewals, renumberings, what rooms made, logs, texts that are looked for, and ribbons and pictures that would take the place of
-other files; and merges of rooms that correct one text, with what they leave open."""
+other files; and merges of rooms that correct one text, with what they leave open. Those on texts and ribbons are in
+differential_notes.py."""
 import os
 import random
 import subprocess
 import tempfile
 
 import differential
+import differential_notes
 import fuzz_asks
 import oracle
 import oracle_log
@@ -33,18 +35,18 @@ def options_of(words):
         last, key = last or word == "--", word[2:].split("=")[0]
         if options and options[-1].endswith("="):
             options[-1] += word
-        elif not last and word[:2] == "--" and key in ("site", "case", "wedge"):
+        elif not last and word[:2] == "--" and key in ("site", "case", "wedge", "set"):
             options.append(word if "=" in word else word + "=")
         else:
             plain.append(word)
     return plain, sorted(options)
 
 
-class Asked:
+class Asked(differential_notes.Notes):
     """A random command: its words, what it reads from standard input, and the files that are there."""
 
-    often = {"merge": 3, "diff": 1, "renumber": 4, "import": 3, "replace": 3, "find": 2, "punch": 2, "proof": 1, "read": 1, "renew": 1,
-             "rooms": 1, "log": 2, "export": 1, "sorts": 1}
+    often = {"merge": 3, "diff": 1, "renumber": 4, "import": 3, "replace": 3, "find": 2, "punch": 2, "proof": 3, "text": 4, "read": 3,
+             "compare": 3, "renew": 1, "rooms": 1, "log": 2, "export": 1, "sorts": 1}
 
     def __init__(self, seed, k):
         self.pick = random.Random(seed * 1000081 + k)
@@ -69,12 +71,27 @@ class Asked:
                 continue
             lines.append("%s = %s" % (key, value))
         pick.shuffle(lines)
-        if pick.random() < 0.4:
+        if words[0] == "proof" and pick.random() < 0.6:
+            lines += self.given(words)
+        elif pick.random() < 0.4:
             flaw = pick.choice(FLAWS)
             lines = [line for line in lines if line.split()[0] != flaw.split()[0]]
             lines.insert(pick.randrange(len(lines) + 1), flaw)
         self.words = words
         self.files[oracle_room.NAME] = "".join(line + "\n" for line in lines).encode()[:-1 if pick.random() < 0.3 else None]
+
+    def given(self, words):
+        """Lines of a room's file for the first settings that are tried, which then are not typed."""
+        lines, keys = [], set()
+        while "--set" in words and self.pick.random() < 0.7:
+            at = words.index("--set")
+            key, value = words[at + 1].split("=")
+            if key in keys:
+                break
+            keys.add(key)
+            lines.append("%s = %s" % (key, value))
+            del words[at:at + 2]
+        return ["[set]", *lines] if lines else []
 
     def edits(self, held, site, count):
         """A set after some edits by one site."""
@@ -349,7 +366,7 @@ class Asked:
         at = self.pick.randrange(len(copy) + 1)
         text = reported.exported(copy[at:at + self.pick.choice([0, 1, 1, 2, 3])])
         text = self.pick.choice([text] * 6 + ["n", "nn", " ", "\n", "zz", "", "_n", "_a_"])
-        plain = self.pick.random() < 0.1
+        plain = self.pick.random() < 0.3
         words = ["find", "one"] + ["--plain"] * plain
         if metal:
             words += ["--case", metal[0], "--wedge", metal[1]]
@@ -402,25 +419,6 @@ class Asked:
         words += ["--force"] * force + ["--faulty"] * faulty
         return oracle_runs.punch, [*job, to], words, {"force": force, "faulty": faulty}
 
-    def of_proof(self):
-        command, names, words, flags = self.drawn(oracle_runs.proof, self.job())
-        until, asked = self.until(0.4)
-        return command, names, words + asked, {**flags, "until": until}
-
-    def of_read(self):
-        """A ribbon with a picture: that of a job, or one that is damaged."""
-        job, files = self.job(), {name: self.files[name] for name in ("one", "c", "w")}
-        made = oracle_runs.run(oracle_runs.punch, files, "one", "c", "w", "rib", faulty=True)[3]
-        ribbon = made.get("rib", oracle.ribbon_bytes([oracle.image_fine(8)]))
-        damaged = [ribbon[:-4], ribbon[:-1], b"MRB1\0\0\0\1\0\0\0\0", b""]
-        self.files["rib"] = ribbon if self.pick.random() < 0.7 else self.pick.choice(damaged)
-        return self.drawn(oracle_runs.read, ["rib", *job[1:]])
-
-    def drawn(self, command, job):
-        to, force = self.stands(*job), self.pick.random() < 0.25
-        words = [command.__name__, job[0], "--case", job[1], "--wedge", job[2], "--svg", to]
-        return command, [*job, to], words + ["--force"] * force, {"force": force}
-
     def due(self, runs=oracle_runs):
         """Its status, what it writes and says, and the files after it."""
         words, wrong = runs.oracle_room.filled(self.words, self.files)
@@ -450,7 +448,7 @@ class Asked:
         status, out, why, left = got
         if oracle_room.NO_TOML in due[2]:
             why = oracle_room.alike(why.decode()).encode()
-        if kind == "diff" and not due[0]:
+        if self.command is oracle_runs.diff and not due[0]:
             return self.differs_in_diff(got, due[1])
         if self.flags.get("review") and due[0] and not due[2] and why == b"copydesk: open readings\n":
             why = b""
@@ -461,12 +459,18 @@ class Asked:
         if kind in ("import", "replace") and not due[0]:
             return self.differs_in_edits(left, out.decode())
         if kind in ("proof", "read"):
-            left = {name: data[:4] if data != due[3].get(name) else data for name, data in left.items()}
+            left = {name: self.picture_in(data) if data != self.files.get(name) else data for name, data in left.items()}
         if left != due[3]:
             return "%s: it has left %r, due %r" % (self.name, left, due[3])
         if kind == "renumber":
             return fuzz_asks.reads_otherwise(self.files.get("one"), left.get("one"), out)
         return None
+
+    def picture_in(self, data):
+        """Of a picture its beginning, and of that of a ribbon also its title and the places of its rows."""
+        if self.command is not oracle_runs.read or data[:4] != b"<svg":
+            return data[:4]
+        return data[:4] + ("%s %s" % fuzz_asks.rows_drawn(data)[:2]).encode()
 
     def differs_in_diff(self, got, readings):
         """What is wrong with what `diff` has written of two feeds: what each has alone, the words that differ, and the readings."""
@@ -508,6 +512,12 @@ class Asked:
             return 1, ""
         files = {name: data for name, data in self.files.items() if name not in differential.FILES}
         return 0, "%s: %s\n of %r\n %r" % (name, wrong, files, self.text)
+
+
+class Noted(Asked):
+    """Commands on texts and ribbons alone."""
+
+    often = {"text": 4, "proof": 3, "read": 3, "compare": 3}
 
 
 TEXTS = ["agian", "teh", "recieve", "sheetss", "thee", "sheets", "galleys", "the", "of", "a", "noon.", "word", "Monday", "Friday", "a_b", "^", "\\",

@@ -7,10 +7,11 @@ symbol. A full site tells each operation and each edit what is due, and a text, 
 more than full are refused as such, and as full where they fork stamps too. And the worst orders of a large feed: each is opened
 in at most ten times what an honest feed of its size takes, lists that fork stamps of their own are taken so too, large feeds of
 one number are refused, merged, renumbered and renewed so, and a script of a million refused commands is read at the speed of its
-bytes.
+bytes. Texts of many faults and second looks, and ribbons of many lines or of one long line, take time by their size.
 """
 import itertools
 import os
+import re
 import resource
 import subprocess
 import sys
@@ -264,6 +265,94 @@ def forks_in_lists(program, n, each):
         sys.exit("forks in lists: more than ten times honest lists")
 
 
+def large_texts(n):
+    """By name: texts of so many symbols, and how many of them the case lacks or have second looks by kind."""
+    yield "an honest text", "The sheets.\nAre in.\n" * (n // 20), {}
+    yield "spaces alone", " " * n, {"two spaces": 1}
+    yield "a word again and again", "a " * (n // 2), {"word repeated": n // 2 - 1}
+    yield "two long words", "a" * (n // 2) + " " + "a" * (n // 2), {"word repeated": 1}
+    yield "long words", ("a" * 999 + " ") * (n // 1000), {"word repeated": n // 1000 - 1, "three lines end alike": n // 1000 - 2}
+    yield "points", " ." * (n // 2), {"space before a point": n // 2, "word repeated": n // 2 - 1}
+    yield "hyphens", "a- b- " * (n // 6), {}
+    yield "quotes", "_\"_" * n, {"straight quote": n, "no matrix": n}
+    yield "escapes", "\\_" * n, {"no matrix": n}
+    yield "lines of no words", "\n" * n, {}
+    yield "lines of a word", "a\r\n" * (n // 2), {"three lines end alike": n // 2 - 2}
+    yield "what the case lacks", "~ " * (n // 2), {"word repeated": n // 2 - 1, "no matrix": n // 2}
+
+
+def slow(program, folder, name, n, write, *words):
+    """The output of a run on what is written for a size: it may take twice as long for each part of it as a run on an eighth."""
+    took = []
+    for size in (n // 8, n):
+        write(size)
+        used, _, out, why = by_hand(program, folder, *words)
+        check(name, why, "")
+        took.append(used)
+    if took[1] > 16 * took[0] + 0.3:
+        sys.exit(f"{name}, {' '.join(words)}: {took[0]:.2f} s for {n // 8}, and {took[1]:.2f} s for {n}")
+    return took[1], out
+
+
+def metal_in(folder):
+    for name in ("case12.toml", "wedge5.toml"):
+        with open(os.path.join(os.path.dirname(os.path.abspath(__file__)), "..", "examples", name), "rb") as reads, open(f"{folder}/{name}", "wb") as writes:
+            writes.write(reads.read())
+    return ["--case", "case12.toml", "--wedge", "wedge5.toml"]
+
+
+def texts(program, folder, n):
+    """The proofs of large texts, for editors and as a galley, with second looks."""
+    words = ["proof", "--text", "large.txt", *metal_in(folder), "--set", "measure=60", "--set", "tight=40", "--set", "loose=240", "--faults", "--warn"]
+
+    def write(size):
+        text, counts = next(it[1:] for it in large_texts(size) if it[0] == name)
+        due.update(counts)
+        with open(f"{folder}/large.txt", "w", encoding="utf-8", newline="") as file:
+            file.write(text)
+
+    for name in [it[0] for it in large_texts(1000)]:
+        due, both = {}, []
+        for form in (["--format", "gcc"], []):
+            used, out = slow(program, folder, name, n, write, *words, *form)
+            both.append(used)
+            for cause, count in due.items():
+                found = len(re.findall(f"(?m)^(?:large.txt:[0-9]+:[0-9]+: (?:warning: )?|look at [0-9]+: |){cause}", out))
+                check(f"{name}, {cause}", found, count)
+        print(f"{name}: a text of {n} symbols in {both[0]:.2f} s for editors, {both[1]:.2f} s as a galley")
+
+
+def ribbons(program, folder, n):
+    """Large ribbons, read in part, by their figures, and against others: of one long line, of many lines with a matrix or without,
+    and of rows that send nothing out."""
+    metal, coarse, fine, cell = metal_in(folder), b"\0\0\x20\2", [b"\0\0\2\6", b"\0\0\x20\6"], b"\0\2\0\0"  # the cell N15
+
+    def write(size):
+        kinds = {"a long line": (cell * (size - 3) + coarse + fine[0], 1), "lines of no matrix": ((coarse + fine[0]) * (size // 2), size // 2),
+                 "lines of a matrix": ((cell + coarse + fine[0]) * (size // 3), size // 3), "rows that send nothing out": (fine[0] * (size - 1), 0)}
+        rows, lines = kinds[name]
+        due["lines"], due["rows"] = lines, len(rows) // 4 + 1
+        for file, data in (("large.rib", fine[0] + rows), ("other.rib", fine[0] + rows.replace(coarse + fine[0], coarse + fine[1]))):
+            with open(f"{folder}/{file}", "wb") as made:
+                made.write(b"MRB1" + (len(data) // 4).to_bytes(4, "big") + data)
+
+    for name in ("a long line", "lines of no matrix", "lines of a matrix", "rows that send nothing out"):
+        due, took = {}, []
+        for more in (["read", "large.rib", "--stats"], ["read", "large.rib", "--lines", f"1..{n}", "--svg", "large.svg"],
+                     ["read", "large.rib", "--lines", f"{n}..{n}", "--svg", "large.svg"], ["diff", "large.rib", "other.rib"], ["diff", "large.rib", "large.rib"]):
+            used, out = slow(program, folder, name, n, write, *more, *metal)
+            took.append(used)
+            lines, rows = due["lines"], due["rows"]
+            head = f"RIBBON {lines} lines, {rows} rows, longest"
+            if more[0] == "diff":
+                told = "none differs" if more[1] == more[2] or not lines else "1 differs" if lines == 1 else f"{lines} differ"
+                head = f"large.rib {lines} lines, {more[2]} {lines} lines, {told}"
+            check(f"{name}, {' '.join(more)}", out[:len(head)], head)
+            if more[0] == "diff":
+                check(f"{name}, lines of {' '.join(more)}", out.count("\n"), 1 if "none" in told else 2 + 2 * lines)
+        print(f"{name}: a ribbon of {n} rows is read in {took[0]:.2f} s, and told from another in {took[3]:.2f} s")
+
+
 def refused_commands(program, n):
     text = "insert 1 0 r\"a\"\n" * n
     begun = time.monotonic()
@@ -282,11 +371,14 @@ def main():
     void_on_a_setting(program)
     last_counter(program)
     prefixes(program)
+    large = int(sys.argv[2]) if len(sys.argv) > 2 else LARGE
     with tempfile.TemporaryDirectory() as folder:
         full_set(program, folder)
         full_by_hand(program, folder)
-        number_used_twice(program, folder, int(sys.argv[2]) if len(sys.argv) > 2 else LARGE)
-        hostile(program, folder, int(sys.argv[2]) if len(sys.argv) > 2 else LARGE)
+        number_used_twice(program, folder, large)
+        hostile(program, folder, large)
+        texts(program, folder, large // 4)
+        ribbons(program, folder, large // 8)
     forks_in_lists(program, 40000, 1000)
     refused_commands(program, 1000000)
 

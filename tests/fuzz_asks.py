@@ -9,6 +9,7 @@ import xml.etree.ElementTree as ElementTree
 import zlib
 
 import oracle
+import oracle_notes
 import oracle_readings
 import oracle_runs
 import pictures
@@ -367,26 +368,70 @@ def pictured(data, galley):
 
 
 def proofed(program, feed, data, case_data, wedge_data, trial, picture):
-    """The proof of a feed by settings that are tried, whole or its faults, and its picture where one is wanted."""
+    """The proof of a feed by settings that are tried, whole or its faults or for editors, with second looks or without, and its
+    picture where one is wanted."""
     write("case", case_data)
     write("wedge", wedge_data)
-    alone = bool(pick_of(data, wedge_data) & 1)
-    words = ["proof", feed, "--case", "case", "--wedge", "wedge"] + ["--faults"] * alone + ["--svg", "a.svg"] * picture
+    number = pick_of(data, wedge_data)
+    alone, gcc, warn = bool(number & 1), number % 5 < 2, bool(number & 4)
+    words = ["proof", feed, "--case", "case", "--wedge", "wedge", *flags_of(alone, gcc, warn)] + ["--svg", "a.svg"] * picture
     for key, value in trial:
         words += ["--set", "%s=%d" % (key, value)]
     got, name = ran(program, words), " ".join(words)
     drawn, files = there("a.svg"), reported_galley.inputs(("case", "wedge"), case_data, wedge_data)
-    bad = next(("--set %s=%d: no setting, or no value that it may have\n" % (key, value) for key, value in trial if not oracle.RANGES[key][0] <= value <= oracle.RANGES[key][1]), "")
-    why = "copydesk: input refused\n" + bad if bad else refused(feed, data) or ("copydesk: input refused\n" + files if isinstance(files, str) else "")
+    why = refused_trial(trial) or refused(feed, data) or ("copydesk: input refused\n" + files if isinstance(files, str) else "")
     if why:
         return differing(name, got, (1, b"", why.encode())) or (name + ": a picture" if drawn else None), forms_of("proof", why)
     meaning = oracle.Meaning(reported.held_in(data))
-    out, clean, galley = reported_galley.proof(meaning, {**meaning.settings, **dict(trial)}, *files, alone)
+    editor = (feed, oracle_notes.places_of_export(meaning.copy)) if gcc else None
+    out, clean, galley = oracle_notes.proof(meaning, {**meaning.settings, **dict(trial)}, *files, alone, editor, warn)
     wrong = differing(name, got, (0 if clean else 1, out.encode(), b""))
     if not wrong and (picture or drawn):
         wrong = pictured(drawn, galley)
         wrong = wrong and name + ": " + wrong
-    return wrong, forms_of("proof", out)
+    return wrong, forms_of("proof gcc" if gcc else "proof", out) | looks_of(out)
+
+
+def flags_of(alone, gcc, warn):
+    return ["--faults"] * alone + (["--format", "gcc"] if gcc else []) + ["--warn"] * warn
+
+
+def refused_trial(trial):
+    """What is said on standard error of the first text of settings that may not be tried, or an empty text."""
+    bad = [(key, value) for key, value in trial if not oracle.RANGES[key][0] <= value <= oracle.RANGES[key][1]]
+    return "copydesk: input refused\n--set %s=%d: no setting, or no value that it may have\n" % bad[0] if bad else ""
+
+
+def looks_of(out):
+    """The forms of the second looks among what is written."""
+    return {"look " + cause for cause in re.findall(r"(?:look at \d+|: warning): ([a-z ]+)", out)}
+
+
+def text_proofed(program, text, plain, case_data, wedge_data, trial):
+    """The proof of a text by settings that are tried, for editors and then as a galley, with second looks; and its picture."""
+    write("case", case_data)
+    write("wedge", wedge_data)
+    write("text", text)
+    files, forms, metal = {"text": text, "case": case_data, "wedge": wedge_data}, set(), ("case", "wedge")
+    alone, why = bool(pick_of(text, wedge_data) & 1), refused_trial(trial)
+    for gcc in (True, False):
+        words = ["proof", "--text", "text", "--case", "case", "--wedge", "wedge", "--svg", "a.svg", *["--plain"] * plain, *flags_of(alone, gcc, True)]
+        words += [word for key, value in trial for word in ("--set", "%s=%d" % (key, value))]
+        due = oracle_runs.run(oracle_runs.proof, files, "text", *metal, "a.svg", text="plain" if plain else "marks", trial=trial, alone=alone, gcc=gcc, warn=True)
+        if why:
+            due = (1, "", why, files)
+        got, picture = ran(program, words), there("a.svg")
+        wrong = differing(" ".join(words), got, bytes_of(due))
+        if not wrong and (picture is not None) != ("a.svg" in due[3]):
+            wrong = "%s: %s picture" % (" ".join(words), "no" if picture is None else "a")
+        if not wrong and picture is not None:
+            both = reported_galley.inputs(metal, case_data, wedge_data)
+            galley = reported_galley.galley_in(reported_copy.read_text(text, plain), oracle_notes.settings_of(trial, *both), *both)
+            wrong = pictured(picture, None if isinstance(galley, str) else galley)
+        if wrong:
+            return wrong, forms
+        forms |= forms_of("text gcc" if gcc else "text", due[1] + due[2]) | looks_of(due[1])
+    return None, forms
 
 
 def read_again(program, ribbon, files, names, cast):
@@ -403,9 +448,21 @@ def read_again(program, ribbon, files, names, cast):
     return differing("read", got, (0, due.encode(), b""))
 
 
-def drawn(program, name, data, whole):
-    """The picture of a ribbon: a row for each image, the last first, a circle for each hole."""
-    status, _, why = ran(program, ["read", name, "--case", "case", "--wedge", "wedge", "--svg", "holes.svg"])
+def rows_drawn(data):
+    """Of the picture of a ribbon its title, the places of its rows as they stand, and of each how many circles it has."""
+    root = data if isinstance(data, ElementTree.Element) else ElementTree.fromstring(data)
+    title = next(it.text for it in root.iter(pictures.SVG + "text") if it.get("class") is None and it.get("transform") is None)
+    circles = {}
+    for it in root.iter(pictures.SVG + "circle"):
+        circles.setdefault(int(it.get("cy")), set()).add(int(it.get("cx")))
+    rows = [(int(it.get("y")) - 3, int(it.text)) for it in root.iter(pictures.SVG + "text") if it.get("class") == "n"]
+    return title, [place for _, place in rows], [len(circles.get(y, ())) for y, _ in rows]
+
+
+def drawn(program, name, data, whole, some=None):
+    """The picture of a ribbon, or of some of its lines: a row for each image, the last first, a circle for each hole."""
+    lines = [] if some is None else ["--lines", "%d..%d" % some]
+    status, _, why = ran(program, ["read", name, "--case", "case", "--wedge", "wedge", "--svg", "holes.svg", *lines])
     picture = there("holes.svg")
     lawful = data[:4] == b"MRB1" and reported.of_ribbon(data).startswith("ok")
     if status != (0 if whole else 1) or why or (picture is not None) != lawful:
@@ -413,14 +470,34 @@ def drawn(program, name, data, whole):
     if not lawful:
         return None
     try:
-        root = ElementTree.fromstring(picture)
-    except ElementTree.ParseError as fault:
-        return "read --svg: no XML: %s" % fault
-    images = [int.from_bytes(data[at:at + 4], "big") for at in range(8, len(data), 4)]
-    circles = {}
-    for it in root.iter(pictures.SVG + "circle"):
-        circles.setdefault(int(it.get("cy")), set()).add(int(it.get("cx")))
-    rows = [(int(it.get("y")) - 3, int(it.text)) for it in root.iter(pictures.SVG + "text") if it.get("class") == "n"]
-    if [place for _, place in rows] != list(range(len(images) - 1, -1, -1)) or any(len(circles.get(y, ())) != images[place].bit_count() for y, place in rows):
-        return "read --svg: other rows or holes"
+        title, rows, holes = rows_drawn(picture)
+    except (ElementTree.ParseError, StopIteration) as fault:
+        return "read --svg: no XML, or no title: %s" % fault
+    images = reported.images_of(data)
+    if (title, rows) != reported.picture_of(data, some) or holes != [images[place].bit_count() for place in rows]:
+        return "read --svg %s: %r, other rows or holes: %r" % (" ".join(lines), title, rows)
     return None
+
+
+def read_in_part(program, name, data, metal):
+    """Some lines of a ribbon, or its figures, by a case and a wedge; which, its bytes pick."""
+    number = pick_of(data, b"read")
+    begin = 1 + (number >> 4) % 5
+    some, pitch = (begin, begin + (number >> 8) % 4), (1 + (number >> 4) % 9, 1 + (number >> 9) % 24)
+    due, whole = reported.reading(data, *metal, some, None) if number & 1 else reported.reading(data, *metal, None, pitch)
+    words = ["--lines", "%d..%d" % some] if number & 1 else ["--stats", "--pitch", "%d/%d" % pitch]
+    words = ["read", name, "--case", "case", "--wedge", "wedge", *words]
+    wrong = differing(" ".join(words), ran(program, words), (0 if whole else 1, due.encode(), b""))
+    if not wrong and number % 6 == 1:
+        wrong = drawn(program, name, data, whole, some)
+    return wrong, {"read some " + re.sub(r"[0-9]+", "#", re.sub(r"[^ -~]+", "", line))[:30] for line in due.split("\n")[2:5]}
+
+
+def told_apart(program, names, ribbons, metal):
+    """Two ribbons, by what they cast."""
+    due, same = reported.differing(names, ribbons, *metal)
+    words = ["diff", *names, "--case", "case", "--wedge", "wedge"]
+    wrong = differing(" ".join(words), ran(program, words), (0 if same else 1, due.encode(), b""))
+    head = due.split("\n")[0]
+    signs = "".join(line[:1] for line in due.split("\n")[1:])
+    return wrong, {"diff ribbons " + re.sub(r"[0-9]+", "#", re.sub(r"rib\d+", "rib", head))[:50], "diff ribbons " + re.sub(r"([+-]{2,})\1+", r"\1", signs)[:6]}

@@ -201,7 +201,8 @@ def changed_bytes(pick, data):
 
 
 class Feeds(Kind):
-    """Two feeds: `check` and `take` of both, the set of both, and `desk`, `merge`, `export`, `diff`, `import`, `replace`, `find`, `sorts`, `proof`, `rooms` and `log`."""
+    """Two feeds: `check` and `take` of both, the set of both, and `desk`, `merge`, `export`, `diff`, `import`, `replace`, `find`, `sorts`, `proof`, `rooms` and `log`;
+    and the proof of a text that their copies give."""
     name, batch = "feeds", 8
     metal = [(differential.FILES[case].encode(), differential.FILES[wedge].encode()) for case, wedge in (("c", "w"), ("c_four", "w_american"), ("c17", "w"), ("c_held", "w"))]
     trial = [("measure", 60), ("tight", 38), ("loose", 150), ("case", 1), ("wedge", 5)]
@@ -217,7 +218,7 @@ class Feeds(Kind):
 
     def corrected(self, pick):
         """A copy of some words of all styles, some with symbols that no case has, and the same after corrections by another site."""
-        words = ["nn", "mtn", "a", "n.", "Mnt", "tnmn", "nnnnn", "zzzzzz", "n_m", "t^", "\\"]
+        words = ["nn", "mtn", "a", "n.", "Mnt", "tnmn", "nnnnn", "zzzzzz", "n_m", "t^", "\\", "n-", "\"n", "."]
         usual = pick.choice([0.9, 0.8, 0.2])
         world = oracle.World()
         for line in (b"site 1", b"site 2"):
@@ -392,7 +393,8 @@ class Feeds(Kind):
                 lambda: fuzz_asks.proofed(program, "two", other, case, wedge, trial, True),
                 lambda: fuzz_asks.renewed(program, data, other), lambda: fuzz_asks.found(program, "two", other, case, wedge),
                 lambda: fuzz_asks.roomed(program, other), lambda: fuzz_asks.as_it_was(program, data),
-                lambda: fuzz_asks.logged(program, other)]
+                lambda: fuzz_asks.logged(program, other),
+                lambda: fuzz_asks.text_proofed(program, *fuzz_asks.texts_of(data, other)[0][:2], case, wedge, trial)]
         for ask in asks[number >> 8 & 1::2]:
             wrong, more = ask()
             if wrong:
@@ -607,7 +609,7 @@ class Rooms(Files):
 
 
 class Ribbons(Kind):
-    """A ribbon, as `check` and `read` read it."""
+    """A ribbon, as `check`, `read` and `diff` read it."""
     name, batch = "ribbons", 40
 
     def __init__(self):
@@ -673,15 +675,15 @@ class Ribbons(Kind):
             if reported.differs(data, line):
                 return "check said %r and not %r" % (line, reported.of(data)), []
             forms.append({"check " + form(line.encode())} | row_forms(data, line))
-        for name, one, found in zip(names, inputs, forms):
-            wrong, more = self.cast(program, name, bytes.fromhex(one["ribbon"]))
+        for name, one, found, last in zip(names, inputs, forms, names[-1:] + names):
+            wrong, more = self.cast(program, name, bytes.fromhex(one["ribbon"]), last)
             if wrong:
                 return wrong, []
             found |= more
         return None, forms
 
-    def cast(self, program, name, data):
-        """What `read` says of a ribbon, by a case and a wedge that its bytes pick."""
+    def cast(self, program, name, data, last):
+        """What `read` says of a ribbon, by a case and a wedge that its bytes pick, and `diff` of it and the one before it."""
         files = self.metal[sum(data) % len(self.metal)]
         write("case", files[0])
         write("wedge", files[1])
@@ -694,8 +696,12 @@ class Ribbons(Kind):
             wrong = fuzz_asks.drawn(program, name, data, whole)
             if wrong:
                 return wrong, None
+        wrong, more = fuzz_asks.read_in_part(program, name, data, (case, wedge))
+        if not wrong and fuzz_asks.pick_of(data) % 3 == 0:
+            wrong, others = fuzz_asks.told_apart(program, (last, name), (read(last), data), (case, wedge))
+            more |= others
         line = due.split("\n")[3 if whole and due.count("\n") > 3 else 0]
-        return None, {"read " + re.sub(r"[0-9]+", "#", re.sub(r"[^ -~]+", "", line))[:40]}
+        return wrong, more | {"read " + re.sub(r"[0-9]+", "#", re.sub(r"[^ -~]+", "", line))[:40]}
 
 
 def row_forms(data, line):

@@ -449,15 +449,18 @@ insert 1 0 r"Send word by noon at the latest."
 """
 # a delete of what has not come
 FAULTY = "take 1 4d464431020000000000000063000900000000000000620009\n"
+# a text with two symbols that the case lacks, and with what has second looks; one that is no copy
+NOTED = 'Send _word_ by noon at the the latest - it  is well- known , "so" .\nYours.\n'
+OPEN = "Send _word\nby noon.\n"
 # symbols that the case lacks, the first at more places than a row of the list has
 LACKED = 'insert 1 0 r"%s"\n' % ("n~ |" * 12)
 
 
 def previews(program, folder, library):
-    """A proof, a punch, a reading and a list of sorts: done as undisturbed, or ended out of memory, and then no ribbon or
-    picture is there, and what stood in its place is."""
+    """A proof of a feed or of a text, a punch, a reading, two ribbons told apart and a list of sorts: done as undisturbed, or
+    ended out of memory, and then no ribbon or picture is there, and what stood in its place is."""
     ribbon, note = os.path.join(folder, "preview.rib"), os.path.join(folder, "note.txt")
-    for feed, commands in (("preview.feed", SETTINGS), ("lacking.feed", LACKED), ("faulty.feed", SETTINGS + FAULTY)):
+    for feed, commands in (("preview.feed", SETTINGS), ("lacking.feed", LACKED), ("faulty.feed", SETTINGS + FAULTY), ("second.feed", SETTINGS.replace("noon", "none"))):
         subprocess.run([program, "desk", feed, "--site", "1"], input=commands.encode(), cwd=folder, capture_output=True, check=True)
     old = [None, b"a note"]
     os.mkdir(os.path.join(folder, "bad"))
@@ -476,6 +479,11 @@ def previews(program, folder, library):
     files = " --case case12.toml --wedge wedge5.toml"
     metal, of_ribbon, faulty = "preview.feed" + files, "read made.rib" + files, "faulty.feed" + files
     subprocess.run([program, *("punch -o made.rib " + metal).split()], cwd=folder, capture_output=True, check=True)
+    for name, text in (("noted.txt", NOTED), ("open.txt", OPEN)):
+        put(os.path.join(folder, name), text.encode())
+    subprocess.run([program, *("punch -o other.rib second.feed" + files).split()], cwd=folder, capture_output=True, check=True)
+    put(os.path.join(folder, "cut.rib"), get(os.path.join(folder, "made.rib"))[:-4])
+    noted = "--text noted.txt --set measure=120 --set tight=40 --set loose=200" + files
     kinds = (
         ("proof " + metal, 0, ""),
         ("proof --faults " + metal, 0, ""),
@@ -492,6 +500,19 @@ def previews(program, folder, library):
         (of_ribbon, 0, ""),
         (of_ribbon + " --svg preview.rib", 0, ""),
         (of_ribbon + " --svg note.txt", 1, "not replaced"),
+        (of_ribbon + " --lines 2..3 --svg preview.rib", 0, ""),
+        (of_ribbon + " --stats --pitch 1/10", 0, ""),
+        ("diff made.rib other.rib" + files, 1, ""),
+        ("diff made.rib made.rib" + files, 0, ""),
+        ("diff cut.rib cut.rib" + files, 1, ""),
+        ("proof " + noted, 1, ""),
+        ("proof --warn --faults --plain " + noted, 1, ""),
+        ("proof --format gcc --warn --svg preview.rib " + noted, 1, ""),
+        ("proof --format gcc --warn --set loose=60 " + metal, 1, ""),
+        ("proof --format gcc " + faulty, 1, ""),
+        ("proof --text noted.txt --format gcc", 1, ""),
+        ("proof --svg note.txt " + noted, 1, "not replaced"),
+        ("proof --text open.txt --svg preview.rib" + files, 1, "input refused"),
         ("sorts preview.feed --case case12.toml --layout", 0, ""),
         ("sorts lacking.feed --case case12.toml", 1, ""),
         ("sorts preview.feed", 0, ""),

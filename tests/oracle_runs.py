@@ -8,6 +8,7 @@ import sys
 
 import oracle
 import oracle_log
+import oracle_notes
 import oracle_readings
 import oracle_room
 import reported
@@ -290,7 +291,7 @@ def find(files, feed, text, plain=False, metal=()):
 def spare(name, sources, what):
     """Refuses to store a ribbon or a picture in the place of what it is made of."""
     if name in sources:
-        raise Stops("copydesk: file fault\n%s: the %s would take its place\n" % (name, what))
+        raise Stops("copydesk: file fault\n%s: the %s would take its place\n" % (reported.plain(name), what))
 
 
 def put(files, name, data, force, out=""):
@@ -337,25 +338,68 @@ def sorts(files, feed, case, until=None):
     return out
 
 
-def proof(files, feed, case, wedge, to, force=False, until=None):
-    """The galley of a feed as text, and then its picture, of which only the beginning is given here."""
-    spare(to, (feed, case, wedge), "picture")
-    held, metal = held_in(files, feed, until=until), metal_in(files, case, wedge)
-    meaning = oracle.Meaning(held)
-    return drawn(files, to, force, *reported_galley.proof(meaning, meaning.settings, *metal, False)[:2])
+def text_in(files, name, plain):
+    """The copy of a text among files."""
+    if name not in files:
+        raise Stops("copydesk: file fault\n%s: it cannot be read.." % reported.plain(name))
+    if len(files[name]) > oracle_notes.MOST_BYTES:
+        raise Stops("copydesk: too long\n%s: .." % reported.plain(name))
+    try:
+        text = oracle_notes.Text(files[name], plain)
+    except reported_copy.NoText as fault:
+        raise Stops("copydesk: input refused\n%s: %s\n" % (reported.plain(name), fault))
+    if len(text.copy) > oracle.LIMIT:
+        raise Stops("copydesk: too long\n%s: .." % reported.plain(name))
+    return text
 
 
-def read(files, ribbon, case, wedge, to, force=False):
-    """What a caster would cast of a ribbon, and then its picture, if it is one."""
+def proof(files, source, case, wedge, to=None, force=False, until=None, text=None, trial=(), alone=False, gcc=False, warn=False):
+    """The galley of a feed, or of a text that is plain or not, or a line for each of its faults; and then its picture, of which
+    only the beginning is given here."""
+    spare(to, (source, case, wedge), "picture")
+    if text is None:
+        meaning = oracle.Meaning(held_in(files, source, until=until))
+    else:
+        meaning = text_in(files, source, text == "plain")
+    metal = metal_in(files, case, wedge)
+    if text is None:
+        settings, places = {**meaning.settings, **dict(trial)}, oracle_notes.places_of_export(meaning.copy)
+    else:
+        settings, places = oracle_notes.settings_of(trial, *metal), meaning.places
+    editor = (source, places) if gcc else None
+    return drawn(files, to, force, *oracle_notes.proof(meaning, settings, *metal, alone, editor, warn)[:2])
+
+
+def read(files, ribbon, case, wedge, to=None, force=False, some=None, pitch=None):
+    """What a caster would cast of a ribbon, some of it, or its figures; and then its picture, if it is one, of which the beginning,
+    the title and the places of the rows are given here."""
     spare(to, (ribbon, case, wedge), "picture")
-    out, whole = reported.reading(files[ribbon], *metal_in(files, case, wedge))
+    data = bytes_in(files, ribbon)
+    out, whole = reported.reading(data, *metal_in(files, case, wedge), some, pitch)
     if out.startswith("no ribbon: "):
         raise Stops("", out)
-    return drawn(files, to, force, out, whole)
+    return drawn(files, to, force, out, whole, "%s %s" % reported.picture_of(data, some))
 
 
-def drawn(files, to, force, out, whole):
-    put(files, to, b"<svg", force, out)
+def compare(files, one, other, case, wedge):
+    """What two ribbons cast otherwise, line by line."""
+    ribbons = [bytes_in(files, name) for name in (one, other)]
+    out, same = reported.differing((one, other), ribbons, *metal_in(files, case, wedge))
+    if not same:
+        raise Stops("", out)
+    return out
+
+
+def bytes_in(files, name):
+    if name not in files:
+        raise Stops("copydesk: file fault\n%s: it cannot be read.." % reported.plain(name))
+    return files[name]
+
+
+def drawn(files, to, force, out, whole, shown=""):
+    """The end of a command that writes a text, and then stores a picture where one is wanted."""
+    if to is not None:
+        put(files, to, b"<svg" + shown.encode(), force, out)
     if not whole:
         raise Stops("", out)
     return out

@@ -4,7 +4,8 @@
 Each is parsed as XML, and what it shows is held to what the program says in text and stores as a ribbon: the number, the place and
 the words of each line, a place for each character, from left to right and inside the frame; boxes for fills; a line without a
 fault ends at the measure, as far as steps of 0.0005 inch reach; the cause beside each line at fault; a circle for each hole of a row,
-rows from the last to the first. Copies with what XML would read as its own, with what it does not allow, and from right to left are
+rows from the last to the first. The picture of some lines of a ribbon has the rows of these lines as that of the whole has them,
+and that of a text is that of a feed with its copy. Copies with what XML would read as its own, with what it does not allow, and from right to left are
 among them, and one of 100,000 symbols. Of sorts that the case lacks all places are counted here, of a million symbols too. The pictures of the README are compared byte for byte; --write stores them.
 """
 import os
@@ -44,9 +45,9 @@ class Room:
             fail("copydesk %s: status %d, %r" % (" ".join(words), ran.returncode, ran.stderr[:300]))
         return ran.stdout
 
-    def keyed(self, name, text, measure, loose):
+    def keyed(self, name, text, measure, loose, *more):
         """A feed with this text and settings."""
-        self.run("import", name, "--site", "1", "--plain", given=text.encode())
+        self.run("import", name, "--site", "1", "--plain", *more, given=text.encode())
         lines = "set 1 measure %d\nset 1 tight 40\nset 1 loose %d\nset 1 case 12\nset 1 wedge 5\n" % (measure, loose)
         self.run("desk", name, "--site", "1", given=lines.encode())
 
@@ -94,8 +95,9 @@ def galley_in(root):
 
 
 def held(room, name, measure, *more, status=None):
-    """A picture of a galley beside its proof."""
-    proof = room.run("proof", name, *METAL, "--svg", "a.svg", *more, status=status).decode()
+    """A picture of a galley beside its proof; of a text its settings are among the other words."""
+    source = ["--text", name] if name.endswith(".txt") else [name]
+    proof = room.run("proof", *source, *METAL, "--svg", "a.svg", *more, status=status).decode()
     root = parsed(room.folder / "a.svg")
     frame = [it for it in root.iter(SVG + "rect") if it.get("class") == "frame"]
     if len(frame) != 1 or float(frame[0].get("width")) != measure or float(frame[0].get("x")) != FRAME:
@@ -141,6 +143,66 @@ def ribbon(room, name, more_status=0):
         if len(circles.get(y, ())) != bin(images[place]).count("1"):
             fail("%s: row %d has %d holes, and its image %08x" % (name, place, len(circles.get(y, ())), images[place]))
     return root
+
+
+def rows_in(root):
+    """Of a picture of a ribbon the places of its rows as they stand, and of each its holes and its meaning."""
+    places, holes, meanings = {}, {}, {}
+    for it in root.iter():
+        if it.tag == SVG + "circle":
+            holes.setdefault(int(it.get("cy")), []).append(int(it.get("cx")))
+        elif it.tag == SVG + "text" and it.get("class") == "n":
+            places[int(it.get("y")) - 3] = int(it.text)
+        elif it.tag == SVG + "text" and it.get("class") == "m":
+            meanings[int(it.get("y")) - 3] = "".join(it.itertext())
+    return [place for _, place in sorted(places.items())], {place: (sorted(holes.get(y, ())), meanings[y]) for y, place in places.items()}
+
+
+def some_lines(room, name):
+    """The pictures of some lines of a ribbon beside that of the whole: each line ends with a row that sends it out, and the row
+    that stands first of all is of none."""
+    whole = rows_in(ribbon(room, name))[1]
+    stored = (room.folder / name).read_bytes()
+    images = [int.from_bytes(stored[at:at + 4], "big") for at in range(8, len(stored), 4)]
+    ends = [place for place, image in enumerate(images) if image & 6 == 6]
+    count = len(ends) - 1
+    for begin, end in {(1, 1), (1, 2), (2, 2), (2, count), (count, count), (count, count + 9), (1, count), (1, 4294967295), (count + 1, count + 1), (7, 99)}:
+        room.run("read", name, *METAL, "--lines", "%d..%d" % (begin, end), "--svg", "some.svg", "--force")
+        root = parsed(room.folder / "some.svg")
+        title = next(it.text for it in root.iter(SVG + "text") if it.get("class") is None and it.get("transform") is None)
+        rows = list(range(ends[min(begin - 1, count)] + 1, ends[min(end, count)] + 1))
+        due = "No rows of a ribbon of %d rows" % len(images)
+        if rows:
+            due = "Rows %d to %d of a ribbon of %d rows, as the caster meets them" % (rows[0], rows[-1], len(images))
+        if title != due:
+            fail("%s, lines %d to %d: the title %r, and not %r" % (name, begin, end, title, due))
+        places, drawn = rows_in(root)
+        if places != rows[::-1] or drawn != {place: whole[place] for place in rows}:
+            fail("%s, lines %d to %d: other rows: %r" % (name, begin, end, places))
+        frame = [it for it in root.iter(SVG + "rect") if it.get("height") not in (None, "100%")]
+        if rows and len(frame) != 1 or any(not float(frame[0].get("y")) < y < float(frame[0].get("y")) + float(frame[0].get("height")) for y in rows_at(root)):
+            fail("%s, lines %d to %d: rows outside the ribbon" % (name, begin, end))
+
+
+def rows_at(root):
+    return [int(it.get("y")) - 3 for it in root.iter(SVG + "text") if it.get("class") == "n"]
+
+
+def of_texts(room):
+    """Pictures of texts beside their proofs, and beside the pictures of feeds with the same copies."""
+    texts = {"letter.txt": (150, 200, "The last sheets are in the galleys again. Send word by noon at latest.\n\nYours, the reader"), "strange.txt": (198, 240, STRANGE),
+             "spaces.txt": (60, 150, "  The  the last sheets \n\n\n are in . "), "empty.txt": (60, 150, "")}
+    for name, (measure, loose, text) in texts.items():
+        (room.folder / name).write_text(text, encoding="utf-8", newline="")
+        sets = ["--plain", "--set", "measure=%d" % measure, "--set", "tight=40", "--set", "loose=%d" % loose]
+        if text:
+            held(room, name, measure, *sets)
+        room.keyed("text.feed", text, measure, loose, "--all")
+        for more in ([], ["--format", "gcc"], ["--warn"], ["--faults", "--set", "measure=90"]):
+            room.run("proof", "--text", name, *METAL, *sets, *more, "--svg", "of_text.svg", status=None)
+            room.run("proof", "text.feed", *METAL, *more, "--svg", "of_feed.svg", status=None)
+            if (room.folder / "of_text.svg").read_bytes() != (room.folder / "of_feed.svg").read_bytes():
+                fail("%s %s: the picture is not that of a feed" % (name, " ".join(more)))
 
 
 def read_back(room, feed, name):
@@ -217,6 +279,8 @@ def main(words):
         room.run("punch", "letter.feed", *METAL, "-o", "letter.rib")
         ribbon(room, "letter.rib")
         read_back(room, "letter.feed", "letter.rib")
+        some_lines(room, "letter.rib")
+        of_texts(room)
         room.keyed("sorts.feed", "Sphinx of black quartz, judge my vow~ and ~ again.", 150, 200)
         sorted_out(room, "sorts.feed", "~")
         room.keyed("many.feed", "".join("~ %d\n|" % k for k in range(50)), 150, 200)
@@ -236,6 +300,8 @@ def main(words):
         room.run("import", "chapter.feed", "--site", "1", given=chapter.encode())
         room.run("desk", "chapter.feed", "--site", "1", given=b"set 1 measure 400\nset 1 tight 40\nset 1 loose 150\nset 1 case 12\nset 1 wedge 5\n")
         held(room, "chapter.feed", 400, status=1)
+        (room.folder / "chapter.txt").write_text(chapter, encoding="utf-8")
+        held(room, "chapter.txt", 400, "--set", "measure=400", "--set", "tight=40", "--set", "loose=150", status=1)
         plain = "".join(it if it.isascii() and (it.isalnum() or it in " .,\n") else "" for it in chapter)
         room.keyed("long.feed", (plain * (1 + 100_000 // len(plain)))[:100_000], 720, 240)
         began = time.time()

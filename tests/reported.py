@@ -1,4 +1,5 @@
 """What `check`, `export`, `diff` and `read` say of files, from the independent program beside this file and docs/FORMATS.md.
+Of a ribbon that is: its lines, some of them, its figures, or what it casts otherwise than another one.
 
 Of a case's or a wedge's fault it has the number alone, as `ribbon` and `cast` answer it.
 """
@@ -59,7 +60,8 @@ def of_ribbon(data):
 
 
 def sent_out(images, case, wedge):
-    """The lines that rows cast, each as its positions, its matrices' widths and what they mean; or the caster's first fault."""
+    """The lines that rows cast, each as its positions, its matrices' widths, what they mean, and each as its cell and whether it
+    has S; or the caster's first fault."""
     unit = wedge["set_q"] * (250 if wedge["pica"] == "sixth" else 249)
     fine, line, out = None, None, []
     for place in reversed(range(len(images))):
@@ -72,7 +74,7 @@ def sent_out(images, case, wedge):
                 return "row %d: no wedges: the caster meets it before the wedges of a line are set" % place
             if line:
                 return "row %d: not sent out: nothing sends out the line that this row starts" % line[0]
-            line = [place, row[1], fine, [], ""]
+            line = [place, row[1], fine, [], "", []]
         else:
             cell, s = row[1], row[2]
             if line is None:
@@ -81,32 +83,126 @@ def sent_out(images, case, wedge):
                 return "row %d: no matrix: the case has neither a symbol, its space nor a fill there" % place
             line[3].append(wedge["units"][cell[1] - 1] * unit + (oracle.STEP * (15 * line[1] + line[2] - 53) if s else 0))
             line[4] = (" " if s else plain(chr(case["cells"][cell][1])) if cell in case["cells"] else "\u00b7") + line[4]
+            line[5].append((cell, bool(s)))
     if line:
         return "row %d: not sent out: nothing sends out the line that this row starts" % line[0]
     return out[::-1]
 
 
-def reading(data, case, wedge):
-    """What `read` writes of a ribbon by a case and a wedge, and whether it is whole."""
+def images_of(data):
+    return [int.from_bytes(data[at:at + 4], "big") for at in range(8, len(data), 4)]
+
+
+def cast_of(data, case, wedge):
+    """The lines that bytes cast; or the line of their first fault, without its end."""
     if data[:4] != b"MRB1":
-        return "no ribbon: it does not begin with MRB1\n", False
+        return "no ribbon: it does not begin with MRB1"
     said = of_ribbon(data)
     if not said.startswith("ok"):
-        return "no ribbon: %s\n" % said[len("ribbon refused: "):], False
-    images = [int.from_bytes(data[at:at + 4], "big") for at in range(8, len(data), 4)]
-    lines = sent_out(images, case, wedge)
-    if isinstance(lines, str):
-        return lines + "\n", False
-    point = 18000 if wedge["pica"] == "sixth" else 17928
-    down = lambda atoms: "%d.%d" % divmod(atoms * 10 // point, 10)
-    up = lambda atoms: "%d.%d" % divmod(-(-atoms * 10 // point), 10)
-    width = lambda atoms: "-" + up(-atoms) if atoms < 0 else down(atoms)
+        return "no ribbon: " + said[len("ribbon refused: "):]
+    return sent_out(images_of(data), case, wedge)
+
+
+class Points:
+    """Widths in points, by the pica of a wedge."""
+
+    def __init__(self, wedge):
+        self.point = 18000 if wedge["pica"] == "sixth" else 17928
+
+    def down(self, atoms):
+        return "%d.%d" % divmod(atoms * 10 // self.point, 10)
+
+    def up(self, atoms):
+        return "%d.%d" % divmod(-(-atoms * 10 // self.point), 10)
+
+    def width(self, atoms):
+        return "-" + self.up(-atoms) if atoms < 0 else self.down(atoms)
+
+
+def line_texts(lines, points):
+    """Of each line the one that `read` writes of it."""
     widths = [sum(line[2]) for line in lines]
     longest = max(widths, default=0)
-    out = "RIBBON %d lines, %d rows, longest %s points\n\n  line    c/f     points   short  text\n" % (len(lines), len(images), width(longest))
-    for number, (line, total) in enumerate(zip(lines, widths), 1):
-        out += "%6d%5d/%-2d%10s%8s  %s\n" % (number, line[0], line[1], width(total), up(longest - total), line[3])
-    return out, True
+    return ["%6d%5d/%-2d%10s%8s  %s\n" % (number, line[0], line[1], points.width(total), points.up(longest - total), line[3])
+            for number, (line, total) in enumerate(zip(lines, widths), 1)]
+
+
+def figures(lines, count, case, points, pitch):
+    """The figures of a ribbon of so many rows, each of which goes a part of an inch; and how many matrices each row of the case gives."""
+    widest, tightest = "none", "none"
+    for number, line in enumerate(lines, 1):
+        total, wedge_sum = sum(line[2]), 15 * line[0] + line[1]
+        if widest == "none" or total > most:
+            most, widest = total, "line %d, %s points" % (number, points.width(total))
+        if tightest == "none" or wedge_sum < least:
+            least, tightest = wedge_sum, "line %d, wedge sum %d" % (number, wedge_sum)
+    tenths = -(-count * pitch[0] * 10 // pitch[1])
+    matrices = [matrix for line in lines for matrix in line[4]]
+    blank = [cell for cell, s in matrices if not s and cell not in case["cells"]]
+    out = "widest    %s\ntightest  %s\n" % (widest, tightest)
+    out += "length    %d.%d inches, %d/%d inch a row\n" % (*divmod(tenths, 10), *pitch)
+    out += "matrices  %d\nblank     %d\n\n  row  matrices\n" % (len(matrices), len(blank))
+    for row in range(1, 16):
+        out += "%5d%10d\n" % (row, len([cell for cell, _ in matrices if cell[1] == row]))
+    return out
+
+
+def reading(data, case, wedge, some=None, pitch=None):
+    """What `read` writes of a ribbon by a case and a wedge, and whether it is whole: of all lines, of those from one number to
+    another, or, where the way of a row is given, its figures."""
+    lines, points = cast_of(data, case, wedge), Points(wedge)
+    if isinstance(lines, str):
+        return lines + "\n", False
+    longest, count = max((sum(line[2]) for line in lines), default=0), len(images_of(data))
+    out = "RIBBON %d lines, %d rows, longest %s points\n\n" % (len(lines), count, points.width(longest))
+    if pitch is not None:
+        return out + figures(lines, count, case, points, pitch), True
+    texts = line_texts(lines, points)
+    wanted = [text for number, text in enumerate(texts, 1) if some is None or some[0] <= number <= some[1]]
+    return out + "  line    c/f     points   short  text\n" + "".join(wanted), True
+
+
+def rows_of_lines(images, some):
+    """The places of the rows of some lines: from the first of their first line, or of a later one, up to before the first of a line behind
+    them. A row is of a line by the Coarse rows up to it, and a cell is of the next one."""
+    lines, before = [], 0
+    for image in images:
+        kind = oracle.row_of(image)[0]
+        before += kind == "coarse"
+        lines.append(before + (kind == "cell"))
+    until = next((place for place, line in enumerate(lines) if line > some[1]), len(lines))
+    begin = next((place for place, line in enumerate(lines[:until]) if line >= some[0]), until)
+    return range(begin, until)
+
+
+def picture_of(data, some=None):
+    """The title of the picture of a ribbon, or of some of its lines, and the places of the rows that it draws, the last first."""
+    images = images_of(data)
+    if some is None:
+        rows, title = range(len(images)), "Ribbon of %d rows, as the caster meets them" % len(images)
+    else:
+        rows, title = rows_of_lines(images, some), "No rows of a ribbon of %d rows" % len(images)
+        if rows:
+            title = "Rows %d to %d of a ribbon of %d rows, as the caster meets them" % (rows[0], rows[-1], len(images))
+    return title, list(reversed(rows))
+
+
+def differing(names, ribbons, case, wedge):
+    """What `diff` writes of two ribbons by what they cast, and whether they cast the same."""
+    cast, points = [cast_of(data, case, wedge) for data in ribbons], Points(wedge)
+    if any(isinstance(lines, str) for lines in cast):
+        return "".join("%s: %s\n" % (plain(name), lines) for name, lines in zip(names, cast) if isinstance(lines, str)), False
+    texts, found, count = [line_texts(lines, points) for lines in cast], "", 0
+    for at in range(max(map(len, cast))):
+        matters = [(line[0], line[1], line[4]) for lines in cast for line in lines[at:at + 1]]
+        if len(matters) == 2 and matters[0] == matters[1]:
+            continue
+        count += 1
+        for sign, lines in zip("-+", texts):
+            found += "".join("%s %s" % (sign, text) for text in lines[at:at + 1])
+    told = "none differs" if count == 0 else "1 differs" if count == 1 else "%d differ" % count
+    heads = ["%s %d lines" % (plain(name), len(lines)) for name, lines in zip(names, cast)]
+    return "%s, %s, %s\n" % (*heads, told) + ("\n" + found if found else ""), count == 0
 
 
 @functools.lru_cache(64)

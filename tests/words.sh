@@ -3,9 +3,10 @@
 set -euo pipefail
 program=$(realpath "${1:-$(dirname "$0")/../crates/copydesk/out/copydesk}")
 examples=$(realpath "$(dirname "$0")/../examples")
+texts=$(realpath "$(dirname "$0")/words_texts.sh")
 folder=$(mktemp -d)
 trap 'rm -rf "$folder"' EXIT
-trap 'echo "words: line $LINENO is not as it must be" >&2' ERR
+trap 'echo "words: ${BASH_SOURCE[0]##*/}, line $LINENO is not as it must be" >&2' ERR
 cd "$folder"
 
 # The status, and what stands first on standard error.
@@ -1000,5 +1001,8 @@ refused "copydesk: file fault
 copydesk.toml: it cannot be read: Is a directory (os error 21)" desk a.feed
 cd ..
 unset given
+
+# shellcheck source=tests/words_texts.sh
+. "$texts"
 
 echo "words: as they must be"

@@ -28,8 +28,10 @@ import growths
 import jobs
 import oracle
 import reported
+from wrong_notes import NOTES
+from wrong_runs import PLAYS, READINGS, RUNS, STOPS
 
-SOURCE = ("oracle.py", "oracle_runs.py", "oracle_readings.py", "reported_copy.py", "reported_galley.py", "oracle_log.py", "oracle_room.py")
+SOURCE = ("oracle.py", "oracle_runs.py", "oracle_readings.py", "reported.py", "reported_copy.py", "reported_galley.py", "oracle_log.py", "oracle_room.py", "oracle_notes.py")
 
 # Of the ribbon half: lines, justification, faults, units, rows, the caster, the two files.
 RIBBON = {
@@ -222,94 +224,11 @@ COPY = {
     "a feed is taken up to its fault": [("                return \"refused feed %d %s\" % (fault.at, fault.word)", "                self.gain(site, read_feed(command[2][:max(4, fault.at)]) if fault.at else [])\n                return \"refused feed %d %s\" % (fault.at, fault.word)")],
 }
 
-# Of runs: sheets, and stored feeds, which a world is given before the first line and which are stored after the last.
-RUNS = {
-    "a strict sheet goes on": [("        if strict and is_refusal(answer):\n            return \"\".join(out), k\n", "")],
-    "every sheet is strict": [("        if strict and is_refusal(answer):", "        if is_refusal(answer):")],
-    "a strict sheet stops without the answer": [("        if strict and is_refusal(answer):\n            return \"\".join(out), k\n", "        if strict and is_refusal(answer):\n            return \"\".join(out[:-1]), k\n")],
-    "a strict sheet stops one line later": [("        if strict and is_refusal(answer):\n            return \"\".join(out), k\n", "        if strict and is_refusal(answer):\n            return \"\".join(out), k + 1\n")],
-    "`no ribbon` stops a strict sheet": [("answer.startswith((\"refused\", \"stopped\"))", "answer.startswith((\"refused\", \"stopped\", \"no ribbon\"))")],
-    "notes are passed over in every sheet": [("        if strict and is_passed_over(line):", "        if is_passed_over(line):")],
-    "empty lines are not passed over": [("return line == b\"\" or line.startswith", "return line.startswith")],
-    "notes are not passed over": [("return line == b\"\" or line.startswith(b\"#\") and len(line) <= oracle.MAX_LINE", "return line == b\"\"")],
-    "notes behind a space are passed over": [("line.startswith(b\"#\")", "line.lstrip().startswith(b\"#\")")],
-    "a long note is passed over": [(" and len(line) <= oracle.MAX_LINE", "")],
-    "a note of the greatest length is refused": [(" and len(line) <= oracle.MAX_LINE", " and len(line) < oracle.MAX_LINE")],
-    "only lines with an answer are counted": [("(\"%d \" % k if number else \"\")", "(\"%d \" % (len(out) + 1) if number else \"\")")],
-    "lines count from 0": [("(\"%d \" % k if number else \"\")", "(\"%d \" % (k - 1) if number else \"\")")],
-    "every strict sheet is numbered": [("(\"%d \" % k if number else \"\")", "(\"%d \" % k if number or strict else \"\")")],
-    "what a stopped sheet did is stored": [("% stop, stored, last\n", "% stop, oracle.runs_feed(world.sites[site]), last\n")],
-    "a stopped sheet ends well": [("        return 1, written, \"copydesk: line %d refused\\n\" % stop, stored, last\n", "        return 0, written, \"\", stored, last\n")],
-    "a run stores nothing": [("    now = oracle.runs_feed(world.sites[site])", "    now = stored")],
-    "a run stores single operations": [("    now = oracle.runs_feed(world.sites[site])", "    now = oracle.singles_feed(world.sites[site])")],
-    "another site is stored": [("    now = oracle.runs_feed(world.sites[site])", "    now = oracle.runs_feed(world.sites[max(world.sites)])")],
-    "all sites are stored": [("    now = oracle.runs_feed(world.sites[site])", "    now = oracle.runs_feed(set().union(*world.sites.values()))")],
-    "what was stored is not brought": [("    world.gain(site, oracle.read_feed(stored) if stored is not None else [])\n", "    oracle.read_feed(stored) if stored is not None else []\n")],
-    "a missing feed is refused": [("oracle.read_feed(stored) if stored is not None else []", "oracle.read_feed(stored or b\"\")")],
-    "what was stored is brought up to its fault": [("        world = brought(site, stored)\n    except oracle.Feed:\n        return 1, \"\", \"copydesk: feed refused\\n\", stored, last\n    why",
-                                                  "        world = brought(site, stored)\n    except oracle.Feed as fault:\n        world = brought(site, stored[:fault.at] or None)\n    why")],
-    "new counters do not follow what was stored": [("    world.gain(site, oracle.read_feed(stored) if stored is not None else [])\n", "    world.gain(site, oracle.read_feed(stored) if stored is not None else [])\n    world.greatest.pop(site, None)\n")],
-    "there is no lock": [("    if held:\n        return 1, \"\", \"copydesk: file fault\\n\", stored, last\n    try:\n        world = brought(site, stored)", "    try:\n        world = brought(site, stored)")],
-}
-
-# Of FEED.last, in runs on stored feeds.
-RUNS |= {
-    "FEED.last is ignored": [("    if why and stored is not None and not older:", "    if False:")],
-    "FEED.last of another site guards": [("made, holds = lasts(data).get(site, 0),", "made, holds = max(lasts(data).values(), default=0),")],
-    "older is not heard by a desk": [("    if why and stored is not None and not older:", "    if why and stored is not None:")],
-    "a missing feed is guarded by what was made": [("    if why and stored is not None and not older:", "    if why and not older:")],
-    "a feed as far as FEED.last is older": [("if holds < made else", "if holds <= made else")],
-    "a feed one short is not older": [("if holds < made else", "if holds + 1 < made else")],
-    "counters of all sites are compared": [("for op in held if op[1][1] == site), default=0)\n\n\ndef noted", "for op in held), default=0)\n\n\ndef noted")],
-    "the operations of a site are counted": [("max((op[1][0] for op in held if op[1][1] == site), default=0)\n\n\ndef noted", "sum(op[1][1] == site for op in held)\n\n\ndef noted")],
-    "a garbled FEED.last guards up to its fault": [("        if line is None:\n            return {}\n", "        if line is None:\n            break\n")],
-    "a zero may stand before a number": [("rb\"site (0|[1-9][0-9]*) (0|[1-9][0-9]*)\\n\"", "rb\"site ([0-9]+) ([0-9]+)\\n\"")],
-    "the last line may lack its end": [("(0|[1-9][0-9]*)\\n\")", "(0|[1-9][0-9]*)(?:\\n|$)\")")],
-    "sites may stand in any order": [("sites != sorted(set(sites)) or", "len(set(sites)) < len(sites) or")],
-    "the greatest counter that ever was is noted": [("site: greatest(held, site)}", "site: max(greatest(held, site), lasts(data).get(site, 0))}")],
-    "the lines of other sites are lost": [("{**lasts(data), site:", "{site:")],
-    "what was garbled is kept": [("    made = {**lasts(data), site: greatest(held, site)}\n", "    made = {**lasts(data), site: greatest(held, site)}\n    if data and not lasts(data):\n        return data\n")],
-    "an older feed that is wanted is not noted": [("now, oracle_readings.noted(last, site, world.sites[site])", "now, last if why else oracle_readings.noted(last, site, world.sites[site])")],
-    "a stopped sheet is noted": [("% stop, stored, last\n", "% stop, stored, oracle_readings.noted(last, site, world.sites[site])\n")],
-    "an older feed is found at the end": [("        return 1, \"\", why, stored, last\n", "        return 1, told(world, data, strict, number)[0], why, stored, last\n")],
-    "made and held are exchanged": [("(name, site, made, holds)", "(name, site, holds, made)")],
-}
-
-# Of a line that memory stops: which operations stand, and whether there were more.
-STOPS = {
-    "all of a stopped insert stands": [("world.insert(site, rest[0], rest[1][:count])", "world.insert(site, rest[0], rest[1])")],
-    "one more of a stopped insert stands": [("world.insert(site, rest[0], rest[1][:count])", "world.insert(site, rest[0], rest[1][:count + 1])")],
-    "the end of a stopped insert stands": [("world.insert(site, rest[0], rest[1][:count])", "world.insert(site, rest[0], rest[1][-count:])")],
-    "an insert may stop when it is done": [("return len(rest[1]) > count and", "return len(rest[1]) >= count and")],
-    "all of a stopped list stands": [("world.gain(to, ops[:count])", "world.gain(to, ops)")],
-    "one fewer of a stopped list stands": [("world.gain(to, ops[:count])", "world.gain(to, ops[:count - 1])")],
-    "a list may stop when it is done": [("return len(ops) > count and", "return len(ops) >= count and")],
-    "known operations of a stopped list are not counted": [("world.gain(to, ops[:count])", "world.gain(to, [op for op in ops if op not in world.sites[to]][:count])")],
-    "a stopped list is in no order": [("ops = sorted(world.sites[site if name == \"send\" else rest[0]], key=oracle.order)", "ops = sorted(world.sites[site if name == \"send\" else rest[0]], key=oracle.spelling)")],
-    "a stopped send begins at the first": [("ops = ops[rest[1][0]:rest[1][1]] if name", "ops = ops[:rest[1][1]] if name")],
-    "a stopped send goes on past its range": [("ops = ops[rest[1][0]:rest[1][1]] if name", "ops = ops[rest[1][0]:] if name")],
-    "a stopped send comes to the giver": [("to = rest[0] if name == \"send\" else site", "to = site")],
-}
-
-# Of lists of events in one play: gifts that some site holds, or none, and what happens after a refusal.
-PLAYS = {
-    "strange operations are given": [("if site not in world.sites or not all(any(op in held for held in world.sites.values()) for op in ops):", "if site not in world.sites:")],
-    "one site holds all of a gift": [("not all(any(op in held for held in world.sites.values()) for op in ops)", "not any(all(op in held for op in ops) for held in world.sites.values())")],
-    "the first of a gift is held": [("for held in world.sites.values()) for op in ops)", "for held in world.sites.values()) for op in ops[:1])")],
-    "another site holds what is given": [("any(op in held for held in world.sites.values())", "any(op in held for number, held in world.sites.items() if number != site)")],
-    "the taker holds what is given": [("any(op in held for held in world.sites.values())", "op in world.sites[site]")],
-    "held by its stamp": [("any(op in held for held in world.sites.values())", "any(op[1] == other[1] for held in world.sites.values() for other in held)")],
-    "what is held of a strange gift is taken": [("for held in world.sites.values()) for op in ops):\n", "for held in world.sites.values()) for op in ops):\n        site in world.sites and world.gain(site, [op for op in ops if any(op in held for held in world.sites.values())])\n")],
-    "a play ends at a refusal": [("told = [event(world, line) for line in lines]", "told = []\n    for line in lines:\n        reported.append(event(world, line))\n        if is_refusal(told[-1]):\n            break")],
-    "a play begins with an empty site": [("world = brought(site, rest[0])", "world = brought(site, None)")],
-    "a line that says no event is passed over": [("or not all(is_event(command) for command in commands):", "or not is_event(commands[0]):")],
-}
-
 # Of what is said of copies and galleys: texts that are read, places, the fewest changes, words that differ, proofs, sorts.
 REPORTED = {
     "a tab is a symbol": [("if not oracle.is_symbol(symbol):", "if not oracle.is_symbol(symbol) and ch != \"\\t\":")],
     "columns count from 0": [("ch, column = text[at], at - begun + 1", "ch, column = text[at], at - begun")],
-    "a style may go on over a line's end": [("            if style:\n                raise NoText(line, column, \"unclosed\")\n            line", "            line")],
+    "a style may go on over a line's end": [("            if style:\n                raise NoText(line, column, \"unclosed\")\n            copy", "            copy")],
     "a style may be open at the end": [("    if style:\n        raise NoText(line, at - begun + 1, \"unclosed\")\n    return copy", "    return copy")],
     "one style inside the other": [("        elif style and style != MARKS[ch]:\n            raise NoText(line, column, \"inside\")\n", "")],
     "a backslash before any character": [("if at >= len(text) or text[at] not in \"\\\\_^\":", "if at >= len(text):")],
@@ -540,59 +459,6 @@ FILES |= {
     "a missing feed holds nothing where one looks": [("    meaning = oracle.Meaning(held_in(files, feed))\n    galley", "    meaning = oracle.Meaning(held_in(files, feed, set()))\n    galley")],
 }
 
-# Of merges and differences of rooms that correct one text: what they leave open.
-READINGS = {
-    # cuts and pieces
-    "cuts by symbol and not by stamp": [("return set.intersection(", "return set.union(")],
-    "spaces of one copy are cuts": [("cuts = cuts_of(lists)", "cuts = cuts_of([lists[1], lists[3]])")],
-    "line ends are no cuts": [("WHITE = ((0, 32), (0, 10))", "WHITE = ((0, 32),)")],
-    "spaces are no cuts": [("WHITE = ((0, 32), (0, 10))", "WHITE = ((0, 10),)")],
-    "every element is a cut": [("if symbol in WHITE}", "}")],
-    "the last piece is left out": [("at + [len(elements)]))", "at + [len(elements)]))[:-1]")],
-    "the first piece is left out": [("at + [len(elements)]))", "at + [len(elements)]))[1:]")],
-    "a cut belongs to the piece behind it": [("[0] + [place + 1 for place in at]", "[0] + at")],
-    # what a piece settles as
-    "a piece is compared with the one copy alone": [("        if settled(base, here, there) == now:", "        if here == now:")],
-    "a piece is compared with either copy": [("        if settled(base, here, there) == now:", "        if now in (here, there):")],
-    "as the stored copy where both changed": [("return one if base == other else None", "return one")],
-    "as the other copy where both changed": [("return one if base == other else None", "return one if base == other else other")],
-    "what both have alike is not looked at": [("        if settled(base, here, there) == now:", "        if here == there or settled(base, here, there) == now:")],
-    "what both have alike is open": [("    if one == other:\n        return one\n", "")],
-    "what one alone has changed is open": [("    if base == one:\n        return other\n", "")],
-    "what both have changed is open, and nothing else": [("        if settled(base, here, there) == now:", "        if base in (here, there):")],
-    "by places, not by symbols": [("        if settled(base, here, there) == now:", "        if settled(*(end - begin for begin, end in piece[:3])) == piece[3][1] - piece[3][0]:")],
-    "what they have in common is what the one has": [("(one & other, one, other, one | other)", "(one, one, other, one | other)")],
-    "what they have in common is nothing": [("(one & other, one, other, one | other)", "(set(), one, other, one | other)")],
-    "what makes no sense is looked for in what is alone": [("(one & other, one, other, one | other)", "(one & other, one, other, other)")],
-    # rows
-    "each open piece is a reading": [("        if last == number - 1 and rows:", "        if False:")],
-    "all open pieces are one reading": [("        if last == number - 1 and rows:", "        if rows:")],
-    "the first open piece of a row alone": [("rows[-1] = [(row[0], ends[1]) for row, ends in zip(rows[-1], piece)]", "pass")],
-    "the last open piece of a row alone": [("rows[-1] = [(row[0], ends[1]) for row, ends in zip(rows[-1], piece)]", "rows[-1] = list(piece)")],
-    # joins
-    "a loss by a fork is missed": [("found = oracle_readings.readings(held, theirs)", "found = [] if oracle.forked(both) - oracle.forked(held) else oracle_readings.readings(held, theirs)")],
-    "each is compared with the stored feed": [("found = oracle_readings.readings(held, theirs)", "found = oracle_readings.readings(held_in(files, feed, set()), theirs)")],
-    "each is compared with what comes of all": [("found = oracle_readings.readings(held, theirs)", "found = oracle_readings.readings(both, theirs)")],
-    "the last join alone": [("        opened += found\n", "        opened = found\n")],
-    "a reading has status 0": [("    if opened and review:", "    if False:")],
-    "a reading has status 1 where nobody asked": [("    if opened and review:", "    if opened:")],
-    "a merge with readings is not stored": [("    files[feed] = oracle.runs_feed(held)\n    if opened and review:", "    if not (opened and review):\n        files[feed] = oracle.runs_feed(held)\n    if opened and review:")],
-    "faults have status 1 too": [("    if opened and review:", "    if review and (opened or oracle.Meaning(held).faults):")],
-    # lines
-    "the place in the stored copy": [("return [(row[3][0], *", "return [(row[1][0], *")],
-    "places count from 1": [("return [(row[3][0], *", "return [(row[3][0] + 1, *")],
-    "here and there are exchanged": [("for k in (3, 1, 2, 0)))", "for k in (3, 2, 1, 0)))")],
-    "shown from 9 before": [("BEFORE, MOST = 8, 24", "BEFORE, MOST = 9, 24")],
-    "25 are shown": [("BEFORE, MOST = 8, 24", "BEFORE, MOST = 8, 25")],
-    "shown from the first": [("    begin = max(0, min(", "    begin = min(0, min(")],
-    "shown from where the one copy differs": [("for words in (here, there, was)) - BEFORE", "for words in (here,)) - BEFORE")],
-    "shown from where the other copy differs": [("for words in (here, there, was)) - BEFORE", "for words in (there,)) - BEFORE")],
-    "what is left out behind is not told": [("\"..\" if begin + MOST < len(words) else \"\"", "\"\"")],
-    "what is left out before is not told": [("\"..\" if begin > 0 else \"\"", "\"\"")],
-    "what is not there is a space": [("        return sign + \"\\n\"\n", "        return sign + \" \\n\"\n")],
-    "styles are not shown": [("reported_copy.shown(words[begin:begin + MOST])", "reported_copy.shown([(0, ch) for _, ch in words[begin:begin + MOST]])")],
-}
-
 TOML = types.SimpleNamespace(loads=functools.lru_cache(None)(tomllib.loads))
 
 
@@ -607,14 +473,15 @@ def model(changes, files):
         if len(stands) != 1:
             raise ValueError("`%s` stands %d times in %s" % (old.strip(), len(stands), ", ".join(SOURCE)))
         texts[stands[0]] = texts[stands[0]].replace(old, new)
-    made, runs, readings, copies, galleys, logs, rooms = modules = [types.ModuleType("wrong " + name) for name in SOURCE]
-    for module, name in zip(modules, SOURCE):
-        exec(compile(texts[name], "wrong " + name, "exec"), module.__dict__)
-    made.runs, made.copies, made.galleys, runs.oracle = runs, copies, galleys, made
-    runs.reported_copy, runs.reported_galley, runs.oracle_readings = copies, galleys, readings
-    readings.oracle, readings.reported_copy = made, copies
-    runs.oracle_log, logs.oracle, logs.reported_copy, runs.oracle_room = logs, made, copies, rooms
-    made.tomllib = TOML
+    modules = {name[:-3]: types.ModuleType("wrong " + name) for name in SOURCE}
+    for name, module in modules.items():
+        module.__file__ = os.path.join(HERE, name + ".py")
+        exec(compile(texts[name + ".py"], "wrong " + name, "exec"), module.__dict__)
+        vars(module).update({"tomllib": TOML} if "tomllib" in vars(module) else {})
+    for module in modules.values():
+        vars(module).update({name: other for name, other in modules.items() if isinstance(vars(module).get(name), types.ModuleType)})
+    made = modules["oracle"]
+    made.runs, made.copies, made.galleys = modules["oracle_runs"], modules["reported_copy"], modules["reported_galley"]
     made.first_fault_case = functools.lru_cache(None)(made.first_fault_case)
     made.first_fault_wedge = functools.lru_cache(None)(made.first_fault_wedge)
     made.read_file = lambda name: files.get(name, "missing")
@@ -757,7 +624,7 @@ class Played:
 class Filed:
     """Random commands on files."""
 
-    models, kind, count = FILES, differential_files.Asked, 4200
+    models, kind, count = FILES, differential_files.Asked, 6800
 
     def __init__(self):
         self.files = {}
@@ -779,6 +646,12 @@ class Joins(Filed):
     """Random merges and differences of rooms that correct one text."""
 
     models, kind, count = READINGS, differential_files.Joined, 700
+
+
+class Noted(Filed):
+    """Random commands on texts and ribbons."""
+
+    models, kind, count = NOTES, differential_files.Noted, 4000
 
 
 class Told:
@@ -818,9 +691,10 @@ class Told:
                 yield "the corpus"
 
 
-def tell(name):
-    """How many jobs or scripts tell a wrong model; at most three where they are not counted."""
-    source = next(it for it in SOURCES if name in it.models)
+def tell(given):
+    """How many jobs or scripts of a source tell a wrong model; at most three where they are not counted."""
+    number, name = given
+    source = SOURCES[number]
     try:
         made = model(source.models[name], source.files)
     except ValueError as fault:
@@ -839,15 +713,15 @@ SOURCES = []
 
 
 def main():
-    SOURCES.extend([Jobs(), Scripts(), Runs(), Stops(), Played(), Told(), Filed(), Joins()])
+    SOURCES.extend([Jobs(), Scripts(), Runs(), Stops(), Played(), Told(), Filed(), Joins(), Noted()])
     bad = 0
     with multiprocessing.get_context("fork").Pool(2) as lanes:
-        for name, found in lanes.imap(tell, [name for source in SOURCES for name in source.models]):
+        for name, found in lanes.imap(tell, [(number, name) for number, source in enumerate(SOURCES) for name in source.models]):
             number = 0 if isinstance(found, str) else sum(found.values())
             bad += number < ENOUGH
             if COUNT or number < ENOUGH:
                 print("%5d  %s: %s" % (number, name, found if isinstance(found, str) else ", ".join("%d %s" % (n, aim) for aim, n in found.most_common(3))), flush=True)
-    print("%d wrong models of the ribbon half, %d of the copy half, %d of runs, %d of what memory stops, %d of lists of events, %d of what is said of copies, %d of commands on files and %d of what merges leave open, %d not found" % (*[len(source.models) for source in SOURCES], bad))
+    print("%d wrong models of the ribbon half, %d of the copy half, %d of runs, %d of what memory stops, %d of lists of events, %d of what is said of copies, %d of commands on files, %d of what merges leave open and %d of texts and ribbons, %d not found" % (*[len(source.models) for source in SOURCES], bad))
     return 1 if bad else 0
 
 

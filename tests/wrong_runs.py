@@ -1,0 +1,138 @@
+"""Wrong models for wrong_models.py: of runs on sheets and stored feeds, of lines that memory stops, of lists of events in one play,
+and of merges."""
+
+# Of runs: sheets, and stored feeds, which a world is given before the first line and which are stored after the last.
+RUNS = {
+    "a strict sheet goes on": [("        if strict and is_refusal(answer):\n            return \"\".join(out), k\n", "")],
+    "every sheet is strict": [("        if strict and is_refusal(answer):", "        if is_refusal(answer):")],
+    "a strict sheet stops without the answer": [("        if strict and is_refusal(answer):\n            return \"\".join(out), k\n", "        if strict and is_refusal(answer):\n            return \"\".join(out[:-1]), k\n")],
+    "a strict sheet stops one line later": [("        if strict and is_refusal(answer):\n            return \"\".join(out), k\n", "        if strict and is_refusal(answer):\n            return \"\".join(out), k + 1\n")],
+    "`no ribbon` stops a strict sheet": [("answer.startswith((\"refused\", \"stopped\"))", "answer.startswith((\"refused\", \"stopped\", \"no ribbon\"))")],
+    "notes are passed over in every sheet": [("        if strict and is_passed_over(line):", "        if is_passed_over(line):")],
+    "empty lines are not passed over": [("return line == b\"\" or line.startswith", "return line.startswith")],
+    "notes are not passed over": [("return line == b\"\" or line.startswith(b\"#\") and len(line) <= oracle.MAX_LINE", "return line == b\"\"")],
+    "notes behind a space are passed over": [("line.startswith(b\"#\")", "line.lstrip().startswith(b\"#\")")],
+    "a long note is passed over": [(" and len(line) <= oracle.MAX_LINE", "")],
+    "a note of the greatest length is refused": [(" and len(line) <= oracle.MAX_LINE", " and len(line) < oracle.MAX_LINE")],
+    "only lines with an answer are counted": [("(\"%d \" % k if number else \"\")", "(\"%d \" % (len(out) + 1) if number else \"\")")],
+    "lines count from 0": [("(\"%d \" % k if number else \"\")", "(\"%d \" % (k - 1) if number else \"\")")],
+    "every strict sheet is numbered": [("(\"%d \" % k if number else \"\")", "(\"%d \" % k if number or strict else \"\")")],
+    "what a stopped sheet did is stored": [("% stop, stored, last\n", "% stop, oracle.runs_feed(world.sites[site]), last\n")],
+    "a stopped sheet ends well": [("        return 1, written, \"copydesk: line %d refused\\n\" % stop, stored, last\n", "        return 0, written, \"\", stored, last\n")],
+    "a run stores nothing": [("    now = oracle.runs_feed(world.sites[site])", "    now = stored")],
+    "a run stores single operations": [("    now = oracle.runs_feed(world.sites[site])", "    now = oracle.singles_feed(world.sites[site])")],
+    "another site is stored": [("    now = oracle.runs_feed(world.sites[site])", "    now = oracle.runs_feed(world.sites[max(world.sites)])")],
+    "all sites are stored": [("    now = oracle.runs_feed(world.sites[site])", "    now = oracle.runs_feed(set().union(*world.sites.values()))")],
+    "what was stored is not brought": [("    world.gain(site, oracle.read_feed(stored) if stored is not None else [])\n", "    oracle.read_feed(stored) if stored is not None else []\n")],
+    "a missing feed is refused": [("oracle.read_feed(stored) if stored is not None else []", "oracle.read_feed(stored or b\"\")")],
+    "what was stored is brought up to its fault": [("        world = brought(site, stored)\n    except oracle.Feed:\n        return 1, \"\", \"copydesk: feed refused\\n\", stored, last\n    why",
+                                                  "        world = brought(site, stored)\n    except oracle.Feed as fault:\n        world = brought(site, stored[:fault.at] or None)\n    why")],
+    "new counters do not follow what was stored": [("    world.gain(site, oracle.read_feed(stored) if stored is not None else [])\n", "    world.gain(site, oracle.read_feed(stored) if stored is not None else [])\n    world.greatest.pop(site, None)\n")],
+    "there is no lock": [("    if held:\n        return 1, \"\", \"copydesk: file fault\\n\", stored, last\n    try:\n        world = brought(site, stored)", "    try:\n        world = brought(site, stored)")],
+}
+
+# Of FEED.last, in runs on stored feeds.
+RUNS |= {
+    "FEED.last is ignored": [("    if why and stored is not None and not older:", "    if False:")],
+    "FEED.last of another site guards": [("made, holds = lasts(data).get(site, 0),", "made, holds = max(lasts(data).values(), default=0),")],
+    "older is not heard by a desk": [("    if why and stored is not None and not older:", "    if why and stored is not None:")],
+    "a missing feed is guarded by what was made": [("    if why and stored is not None and not older:", "    if why and not older:")],
+    "a feed as far as FEED.last is older": [("if holds < made else", "if holds <= made else")],
+    "a feed one short is not older": [("if holds < made else", "if holds + 1 < made else")],
+    "counters of all sites are compared": [("for op in held if op[1][1] == site), default=0)\n\n\ndef noted", "for op in held), default=0)\n\n\ndef noted")],
+    "the operations of a site are counted": [("max((op[1][0] for op in held if op[1][1] == site), default=0)\n\n\ndef noted", "sum(op[1][1] == site for op in held)\n\n\ndef noted")],
+    "a garbled FEED.last guards up to its fault": [("        if line is None:\n            return {}\n", "        if line is None:\n            break\n")],
+    "a zero may stand before a number": [("rb\"site (0|[1-9][0-9]*) (0|[1-9][0-9]*)\\n\"", "rb\"site ([0-9]+) ([0-9]+)\\n\"")],
+    "the last line may lack its end": [("(0|[1-9][0-9]*)\\n\")", "(0|[1-9][0-9]*)(?:\\n|$)\")")],
+    "sites may stand in any order": [("sites != sorted(set(sites)) or", "len(set(sites)) < len(sites) or")],
+    "the greatest counter that ever was is noted": [("site: greatest(held, site)}", "site: max(greatest(held, site), lasts(data).get(site, 0))}")],
+    "the lines of other sites are lost": [("{**lasts(data), site:", "{site:")],
+    "what was garbled is kept": [("    made = {**lasts(data), site: greatest(held, site)}\n", "    made = {**lasts(data), site: greatest(held, site)}\n    if data and not lasts(data):\n        return data\n")],
+    "an older feed that is wanted is not noted": [("now, oracle_readings.noted(last, site, world.sites[site])", "now, last if why else oracle_readings.noted(last, site, world.sites[site])")],
+    "a stopped sheet is noted": [("% stop, stored, last\n", "% stop, stored, oracle_readings.noted(last, site, world.sites[site])\n")],
+    "an older feed is found at the end": [("        return 1, \"\", why, stored, last\n", "        return 1, told(world, data, strict, number)[0], why, stored, last\n")],
+    "made and held are exchanged": [("(name, site, made, holds)", "(name, site, holds, made)")],
+}
+
+# Of a line that memory stops: which operations stand, and whether there were more.
+STOPS = {
+    "all of a stopped insert stands": [("world.insert(site, rest[0], rest[1][:count])", "world.insert(site, rest[0], rest[1])")],
+    "one more of a stopped insert stands": [("world.insert(site, rest[0], rest[1][:count])", "world.insert(site, rest[0], rest[1][:count + 1])")],
+    "the end of a stopped insert stands": [("world.insert(site, rest[0], rest[1][:count])", "world.insert(site, rest[0], rest[1][-count:])")],
+    "an insert may stop when it is done": [("return len(rest[1]) > count and", "return len(rest[1]) >= count and")],
+    "all of a stopped list stands": [("world.gain(to, ops[:count])", "world.gain(to, ops)")],
+    "one fewer of a stopped list stands": [("world.gain(to, ops[:count])", "world.gain(to, ops[:count - 1])")],
+    "a list may stop when it is done": [("return len(ops) > count and", "return len(ops) >= count and")],
+    "known operations of a stopped list are not counted": [("world.gain(to, ops[:count])", "world.gain(to, [op for op in ops if op not in world.sites[to]][:count])")],
+    "a stopped list is in no order": [("ops = sorted(world.sites[site if name == \"send\" else rest[0]], key=oracle.order)", "ops = sorted(world.sites[site if name == \"send\" else rest[0]], key=oracle.spelling)")],
+    "a stopped send begins at the first": [("ops = ops[rest[1][0]:rest[1][1]] if name", "ops = ops[:rest[1][1]] if name")],
+    "a stopped send goes on past its range": [("ops = ops[rest[1][0]:rest[1][1]] if name", "ops = ops[rest[1][0]:] if name")],
+    "a stopped send comes to the giver": [("to = rest[0] if name == \"send\" else site", "to = site")],
+}
+
+# Of lists of events in one play: gifts that some site holds, or none, and what happens after a refusal.
+PLAYS = {
+    "strange operations are given": [("if site not in world.sites or not all(any(op in held for held in world.sites.values()) for op in ops):", "if site not in world.sites:")],
+    "one site holds all of a gift": [("not all(any(op in held for held in world.sites.values()) for op in ops)", "not any(all(op in held for op in ops) for held in world.sites.values())")],
+    "the first of a gift is held": [("for held in world.sites.values()) for op in ops)", "for held in world.sites.values()) for op in ops[:1])")],
+    "another site holds what is given": [("any(op in held for held in world.sites.values())", "any(op in held for number, held in world.sites.items() if number != site)")],
+    "the taker holds what is given": [("any(op in held for held in world.sites.values())", "op in world.sites[site]")],
+    "held by its stamp": [("any(op in held for held in world.sites.values())", "any(op[1] == other[1] for held in world.sites.values() for other in held)")],
+    "what is held of a strange gift is taken": [("for held in world.sites.values()) for op in ops):\n", "for held in world.sites.values()) for op in ops):\n        site in world.sites and world.gain(site, [op for op in ops if any(op in held for held in world.sites.values())])\n")],
+    "a play ends at a refusal": [("told = [event(world, line) for line in lines]", "told = []\n    for line in lines:\n        reported.append(event(world, line))\n        if is_refusal(told[-1]):\n            break")],
+    "a play begins with an empty site": [("world = brought(site, rest[0])", "world = brought(site, None)")],
+    "a line that says no event is passed over": [("or not all(is_event(command) for command in commands):", "or not is_event(commands[0]):")],
+}
+
+# Of merges and differences of rooms that correct one text: what they leave open.
+READINGS = {
+    # cuts and pieces
+    "cuts by symbol and not by stamp": [("return set.intersection(", "return set.union(")],
+    "spaces of one copy are cuts": [("cuts = cuts_of(lists)", "cuts = cuts_of([lists[1], lists[3]])")],
+    "line ends are no cuts": [("WHITE = ((0, 32), (0, 10))", "WHITE = ((0, 32),)")],
+    "spaces are no cuts": [("WHITE = ((0, 32), (0, 10))", "WHITE = ((0, 10),)")],
+    "every element is a cut": [("if symbol in WHITE}", "}")],
+    "the last piece is left out": [("at + [len(elements)]))", "at + [len(elements)]))[:-1]")],
+    "the first piece is left out": [("at + [len(elements)]))", "at + [len(elements)]))[1:]")],
+    "a cut belongs to the piece behind it": [("[0] + [place + 1 for place in at]", "[0] + at")],
+    # what a piece settles as
+    "a piece is compared with the one copy alone": [("        if settled(base, here, there) == now:", "        if here == now:")],
+    "a piece is compared with either copy": [("        if settled(base, here, there) == now:", "        if now in (here, there):")],
+    "as the stored copy where both changed": [("return one if base == other else None", "return one")],
+    "as the other copy where both changed": [("return one if base == other else None", "return one if base == other else other")],
+    "what both have alike is not looked at": [("        if settled(base, here, there) == now:", "        if here == there or settled(base, here, there) == now:")],
+    "what both have alike is open": [("    if one == other:\n        return one\n", "")],
+    "what one alone has changed is open": [("    if base == one:\n        return other\n", "")],
+    "what both have changed is open, and nothing else": [("        if settled(base, here, there) == now:", "        if base in (here, there):")],
+    "by places, not by symbols": [("        if settled(base, here, there) == now:", "        if settled(*(end - begin for begin, end in piece[:3])) == piece[3][1] - piece[3][0]:")],
+    "what they have in common is what the one has": [("(one & other, one, other, one | other)", "(one, one, other, one | other)")],
+    "what they have in common is nothing": [("(one & other, one, other, one | other)", "(set(), one, other, one | other)")],
+    "what makes no sense is looked for in what is alone": [("(one & other, one, other, one | other)", "(one & other, one, other, other)")],
+    # rows
+    "each open piece is a reading": [("        if last == number - 1 and rows:", "        if False:")],
+    "all open pieces are one reading": [("        if last == number - 1 and rows:", "        if rows:")],
+    "the first open piece of a row alone": [("rows[-1] = [(row[0], ends[1]) for row, ends in zip(rows[-1], piece)]", "pass")],
+    "the last open piece of a row alone": [("rows[-1] = [(row[0], ends[1]) for row, ends in zip(rows[-1], piece)]", "rows[-1] = list(piece)")],
+    # joins
+    "a loss by a fork is missed": [("found = oracle_readings.readings(held, theirs)", "found = [] if oracle.forked(both) - oracle.forked(held) else oracle_readings.readings(held, theirs)")],
+    "each is compared with the stored feed": [("found = oracle_readings.readings(held, theirs)", "found = oracle_readings.readings(held_in(files, feed, set()), theirs)")],
+    "each is compared with what comes of all": [("found = oracle_readings.readings(held, theirs)", "found = oracle_readings.readings(both, theirs)")],
+    "the last join alone": [("        opened += found\n", "        opened = found\n")],
+    "a reading has status 0": [("    if opened and review:", "    if False:")],
+    "a reading has status 1 where nobody asked": [("    if opened and review:", "    if opened:")],
+    "a merge with readings is not stored": [("    files[feed] = oracle.runs_feed(held)\n    if opened and review:", "    if not (opened and review):\n        files[feed] = oracle.runs_feed(held)\n    if opened and review:")],
+    "faults have status 1 too": [("    if opened and review:", "    if review and (opened or oracle.Meaning(held).faults):")],
+    # lines
+    "the place in the stored copy": [("return [(row[3][0], *", "return [(row[1][0], *")],
+    "places count from 1": [("return [(row[3][0], *", "return [(row[3][0] + 1, *")],
+    "here and there are exchanged": [("for k in (3, 1, 2, 0)))", "for k in (3, 2, 1, 0)))")],
+    "shown from 9 before": [("BEFORE, MOST = 8, 24", "BEFORE, MOST = 9, 24")],
+    "25 are shown": [("BEFORE, MOST = 8, 24", "BEFORE, MOST = 8, 25")],
+    "shown from the first": [("    begin = max(0, min(", "    begin = min(0, min(")],
+    "shown from where the one copy differs": [("for words in (here, there, was)) - BEFORE", "for words in (here,)) - BEFORE")],
+    "shown from where the other copy differs": [("for words in (here, there, was)) - BEFORE", "for words in (there,)) - BEFORE")],
+    "what is left out behind is not told": [("\"..\" if begin + MOST < len(words) else \"\"", "\"\"")],
+    "what is left out before is not told": [("\"..\" if begin > 0 else \"\"", "\"\"")],
+    "what is not there is a space": [("        return sign + \"\\n\"\n", "        return sign + \" \\n\"\n")],
+    "styles are not shown": [("reported_copy.shown(words[begin:begin + MOST])", "reported_copy.shown([(0, ch) for _, ch in words[begin:begin + MOST]])")],
+}
