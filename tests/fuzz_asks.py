@@ -357,7 +357,7 @@ def pictured(data, galley):
     if frame != [galley.settings["measure"]] or len(seen) != len(galley.lines):
         return "a frame of %r, %d lines of %d" % (frame, len(seen), len(galley.lines))
     for line, drawn in zip(galley.lines, seen):
-        words = pictures.shown(" ".join(map(reported_galley.bare, line.words)))
+        words = pictures.shown(" ".join("".join(chr(ch) for _, ch in word) for word in line.words))
         due = (line.number, line.begin, bool(line.fault), sum(line.fills), words.rstrip(" "), line.fault or "")
         got = (drawn["number"], drawn["place"], drawn["faulty"], len(drawn["boxes"]), drawn["text"].rstrip(" "), drawn["cause"])
         if got != due:
