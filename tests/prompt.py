@@ -24,7 +24,7 @@ PROMPT = "> "
 END = "\x04"
 STORED = "copydesk: %s is stored\n"
 SAME = "copydesk: %s has not changed, and is not stored anew\n"
-SOON = 20
+SOON = 60
 
 
 def fail(words):
