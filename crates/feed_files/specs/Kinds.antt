@@ -12,13 +12,19 @@ use Rattle.feed_files.specs.declared.kinds.Kind.TheVariants as kinds
 abbrev pub begins : List ℕ → List ℕ → Bool
 begins bytes prefix = starts_with eqb bytes prefix
 
--- the kind of bytes, by the first four; none of no bytes
+-- what a document begins with: that it is HTML, and that this program wrote it
+unfoldable pub document_head : List ℕ
+document_head =
+    codes "<!DOCTYPE html>\n<html xmlns=\"http://www.w3.org/1999/xhtml\" lang=\"en\">\n<head>\n<meta charset=\"utf-8\"/>\n<meta name=\"generator\" content=\"copydesk\"/>\n"
+
+-- the kind of bytes, by the first of them; none of no bytes
 abbrev pub kind_of : List ℕ → Option Kind
 kind_of bytes =
     if length bytes == 0 then None
     else if begins bytes (codes "MFD1") || begins bytes (codes "MFD2") then Some kinds.Feed
     else if begins bytes (codes "MRB1") then Some kinds.Ribbon
     else if begins bytes (codes "<svg") then Some kinds.Picture
+    else if begins bytes document_head then Some kinds.Document
     else Some kinds.Other
 
 -- what a read says of the kind that stands there: none where no file is there, and nothing where the device or memory

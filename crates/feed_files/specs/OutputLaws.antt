@@ -1,6 +1,6 @@
 -- What holds of the kinds of files.
 use Rattle.std.specs.Prelude.{◌≡◌, ◌<◌, ℕ, List, [], ◌++◌, Some, None, codes, length}
-use Rattle.feed_files.specs.Kinds.{kind_of}
+use Rattle.feed_files.specs.Kinds.{document_head, kind_of}
 use Rattle.feed_files.specs.declared.kinds.Kind.TheVariants as kinds
 
 -- what begins as a feed of either form is a feed
@@ -14,7 +14,10 @@ RibbonsAreRibbons = (rest : List ℕ) → kind_of (codes "MRB1" ++ rest) ≡ Som
 abbrev pub PicturesArePictures : Type 0
 PicturesArePictures = (rest : List ℕ) → kind_of (codes "<svg" ++ rest) ≡ Some kinds.Picture
 
--- what is shorter than that is no feed, no ribbon and no picture
+abbrev pub DocumentsAreDocuments : Type 0
+DocumentsAreDocuments = (rest : List ℕ) → kind_of (document_head ++ rest) ≡ Some kinds.Document
+
+-- what is shorter than four bytes is none of these
 abbrev pub ShortOnesAreOthers : Type 0
 ShortOnesAreOthers = (bytes : List ℕ) → 0 < length bytes → length bytes < 4 → kind_of bytes ≡ Some kinds.Other
 
