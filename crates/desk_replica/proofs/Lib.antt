@@ -1,11 +1,11 @@
 pub mod Sets
 pub mod Known
-pub mod Searches
 pub mod Passes
 pub mod Shows
 pub mod Made
 pub mod KeptSets
 pub mod Sound
+pub mod ByStamp
 pub mod Ends
 pub mod Convergence
 pub mod Orders

@@ -86,12 +86,6 @@ module _ (h : OpSet) (i : ℕ) (d : Op) (lt : i < length (in_order h)) where
   clear_before-other forked = ap (filter (λ op. is_clear (in_order h) (stamp_of op))) taken_more ∙ filter-last (λ op. is_clear (in_order h) (stamp_of op)) (take i (in_order h)) (get_or (in_order h) i d)
       ∙ ap (λ b. clear_before (in_order h) i ++ cond b (get_or (in_order h) i d ∷ []) []) forked ∙ append-nil (clear_before (in_order h) i)
 
-pub inserts-last : (ops : List Op) (o : Op) → filter_map insertion (ops ++ o ∷ []) ≡ filter_map insertion ops ++ filter_map insertion (o ∷ [])
-inserts-last [] o = refl
-inserts-last (Insert s p y ∷ ops) o = ap (λ l. record { stamp = s; parent = p; symbol = y } ∷ l) (inserts-last ops o)
-inserts-last (Delete s t ∷ ops) o = inserts-last ops o
-inserts-last (Set s k v ∷ ops) o = inserts-last ops o
-
 pub each-insert : (Q : Insertion → Type 0) (R : Op → Type 0) → ((p : Op) (x : Insertion) → R p → insertion p ≡ Some x → Q x) → (ops : List Op) → Each R ops → Each Q (filter_map insertion ops)
 each-insert Q R f [] h = tt
 each-insert Q R f (Insert s p y ∷ ops) h = (f (Insert s p y) _ h.0 refl, each-insert Q R f ops h.1)

@@ -1,6 +1,7 @@
 pub mod State
 pub mod Edits
 pub mod JobSettings
+pub mod Seats
 pub mod Ways
 pub mod Laws
 pub mod Shows

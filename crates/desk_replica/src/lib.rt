@@ -47,10 +47,12 @@ use thiserror::Error;
 mod apart;
 mod faults;
 pub mod laws;
+mod seats;
 mod settings;
 mod taking;
 
 pub use desk_held::Stopped;
+pub use seats::{Stamped, seat};
 pub use settings::Settings;
 
 /// What taking in an operation did.

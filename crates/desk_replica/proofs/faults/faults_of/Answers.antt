@@ -1,14 +1,12 @@
-use Rattle.std.proofs.Common.{ℕ, ◌<◌, ◌≤◌, ◌∙◌, sym, subst}
-use Rattle.desk_ops.specs.OpSet.{in_order}
-use Rattle.desk_ops.proofs.OpSets.{length-in_order}
+use Rattle.std.proofs.Common.{ℕ, ◌≤◌, length, ◌∙◌, sym, ap, subst, arith}
+use Rattle.desk_ops.specs.Faults.{copy_faults}
 use Rattle.desk_replica.proofs.Ends.{reported-all}
 use Rattle.desk_replica.proofs.faults.faults_of.Goals as goal
 
-pub pass-requires-clause-within : goal.pass-requires-clause-within
-pass-requires-clause-within g c =
-    subst (λ (n : ℕ). c.loop-place.place < n) (c.len-place-end.ensures.value ∙ sym (length-in_order c.args.held.now.ops)) c.loop-place-test.true
+pub pass-requires-clause-order : goal.pass-requires-clause-order
+pass-requires-clause-order g c = record { set = c.args.held.now.ops; lawful = c.requires; is = c.deref.ensures.value ∙ c.in_ok-ops.ensures.items }
 
 pub returns : goal.returns
 returns g c =
-    reported-all (in_order c.args.held.now.ops) c.loop-place.place c.loop-place.ways.items c.loop-place.faults.items
-    (subst (λ (n : ℕ). n ≤ c.loop-place.place) (c.len-place-end.ensures.value ∙ sym (length-in_order c.args.held.now.ops)) c.loop-place-test.false) c.loop-place.invariant
+    reported-all c.in_ok-ops.ops.items c.loop-place.place c.loop-place.hanging.items c.loop-place.faults.items
+    (omega (arith, c.loop-place-test.false, c.len-place-end.ensures)) c.loop-place.invariant ∙ ap copy_faults c.in_ok-ops.ensures.items
