@@ -16,3 +16,11 @@ pub mod Settings
 pub mod Made
 pub mod Names
 pub mod Shelves
+pub mod Skipping
+pub mod Sorting
+pub mod Parts
+pub mod Equal
+pub mod Sets
+pub mod Begins
+pub mod Unreported
+pub mod Readable

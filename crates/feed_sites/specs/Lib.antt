@@ -4,3 +4,11 @@ pub mod Laws
 pub mod Renumbering
 pub mod Anew
 pub mod Renewing
+pub mod Alone
+pub mod Counters
+pub mod Stretches
+pub mod Walking
+pub mod Words
+pub mod Reported
+pub mod Reporting
+pub mod DifferenceLaws

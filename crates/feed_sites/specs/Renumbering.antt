@@ -11,7 +11,7 @@ use Rattle.feed_edit.specs.Keeping.{IsKept}
 use Rattle.feed_edit.specs.Merging.{IsBarred, IsOpened}
 use Rattle.feed_edit.specs.declared.fault.KeepFault.{KeepFault}
 use Rattle.feed_edit.specs.declared.fault.KeepFault.TheVariants as keeps
-use Rattle.feed_compare.specs.Reported.{ReportsWords}
+use Rattle.feed_sites.specs.Reported.{ReportsWords}
 use Rattle.feed_sites.specs.Moving.{set_renumbered}
 use Rattle.feed_sites.specs.Refusing.{IsRefused, MayMove}
 use Rattle.feed_sites.specs.declared.fault.RenumberFault.{RenumberFault}

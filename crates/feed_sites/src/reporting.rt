@@ -4,10 +4,10 @@ ghost use Rattle.std.specs.Prelude.{◌≡◌, IfOk, string_bytes};
 ghost use Rattle.feed_sites.specs.Renumbering.{Reports, renumbered_line};
 
 use crate::making::Made;
+use crate::reported::put_words;
 use desk_blocks::Blocks;
 use desk_memory::NoMemory;
 use desk_replica::Replica;
-use feed_compare::put_words;
 use std::alloc::Allocator;
 
 /// The line of how many operations were moved.

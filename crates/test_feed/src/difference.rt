@@ -1,4 +1,4 @@
-//! The tests of feed_compare.
+//! The tests of feed_sites.
 mod operations;
 mod refusals;
 mod rooms;

@@ -1,4 +1,4 @@
-//! The tests of feed_compare, feed_check and feed_edit.
+//! The tests of feed_sites, feed_check and feed_edit.
 #![tactic(auto)]
 
 #[cfg(test)]

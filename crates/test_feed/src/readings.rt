@@ -3,10 +3,10 @@
 use desk_ops::{Style, Symbol};
 use desk_replica::Replica;
 use desk_seq::Flat;
-use feed_compare::{DifferenceFault, report_difference};
 use feed_edit::{FeedTrouble, KeepFault, MergeFault, TakeFault, Version, merge_feeds};
 use feed_files::FileRefusal;
 use feed_files::trial::TrialFiles;
+use feed_sites::{DifferenceFault, report_difference};
 use linked_list_allocator::LocalHeap;
 use std::alloc::{Allocator, Global};
 use std::test::Fail;

@@ -1,9 +1,9 @@
 use crate::difference::rooms::{keyed, reported};
 use desk_codec::{FeedFault, FeedWhy};
-use feed_compare::{DifferenceFault, report_difference};
 use feed_edit::{FeedTrouble, Version};
 use feed_files::trial::{AtEnd, TrialFiles, TrialWriter};
 use feed_files::{FileRefusal, Files};
+use feed_sites::{DifferenceFault, report_difference};
 use linked_list_allocator::LocalHeap;
 use std::alloc::{AllocError, Global};
 use std::test::Fail;

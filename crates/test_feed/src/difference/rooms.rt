@@ -1,8 +1,8 @@
 //! Feeds of texts, and what is said of two.
 
-use feed_compare::{DifferenceFault, report_difference};
 use feed_edit::{Version, import_text};
 use feed_files::trial::{TrialFiles, TrialReader};
+use feed_sites::{DifferenceFault, report_difference};
 use std::alloc::Global;
 use std::test::Fail;
 

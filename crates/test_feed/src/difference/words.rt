@@ -1,7 +1,7 @@
 use crate::difference::rooms::{feed_of, keyed, reported, reports};
-use feed_compare::report_difference;
 use feed_edit::Version;
 use feed_files::trial::TrialFiles;
+use feed_sites::report_difference;
 use std::alloc::Global;
 use std::test::Fail;
 
