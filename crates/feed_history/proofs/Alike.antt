@@ -9,7 +9,8 @@ use Rattle.desk_ops.specs.Op.{stamp_of}
 use Rattle.feed_history.specs.declared.corrections.Correction.{Correction}
 use Rattle.feed_history.specs.declared.asked.Asked.{Asked}
 use Rattle.feed_history.specs.declared.spots.Spot.{Spot}
-use Rattle.feed_history.specs.Rows.{bearing_by, fault_stamp, first, row_of}
+use Rattle.desk_replica.specs.Seats.{fault_stamp}
+use Rattle.feed_history.specs.Rows.{bearing_by, first, row_of}
 use Rattle.feed_history.specs.Corrections.{correction_to, ends}
 use Rattle.feed_history.specs.Spots.{any_place, first_of, or_else, own_place, place_of, shown_place, spot_stamp, target_place}
 use Rattle.feed_history.specs.Texts.{deleted, inserted}

@@ -22,7 +22,8 @@ use Rattle.std.specs.contracts.prelude.CharOrd.TheImpl as char_ord
 use Rattle.std.specs.contracts.prelude.UsizeOrd.TheImpl as usize_ord
 use Rattle.desk_ops.specs.contracts.op.StyleOrd.TheImpl as style_ord
 use Rattle.feed_history.specs.contracts.spots.SpotOrd.TheImpl as spot_ord
-use Rattle.feed_history.specs.Rows.{Rise, bearing_by}
+use Rattle.desk_replica.specs.Seats.{Rise}
+use Rattle.feed_history.specs.Rows.{bearing_by}
 use Rattle.feed_history.specs.Spots.{spot_stamp, spots_from}
 
 -- ---- sorted

@@ -22,7 +22,8 @@ use Rattle.desk_ops.proofs.Lists.{among-filter}
 use Rattle.desk_ops.proofs.Means.{counter-before}
 use Rattle.desk_ops.proofs.Stamps.{before-other, by_cases, same-from, same-refl, same-true}
 use Rattle.desk_ops.proofs.Tree.{filter-hit, filter-miss}
-use Rattle.feed_history.specs.Rows.{Rise, at}
+use Rattle.desk_replica.specs.Seats.{Rise}
+use Rattle.feed_history.specs.Rows.{at}
 use Rattle.feed_history.specs.Corrections.{AreEnds, AreNext, ends, is_end, next_of}
 
 -- ---- what bears a stamp

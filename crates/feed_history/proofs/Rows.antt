@@ -20,28 +20,9 @@ use Rattle.std.specs.declared.cmp.Ordering.TheVariants.{Less}
 use Rattle.desk_ops.specs.Faults.{IsByStamp}
 use Rattle.desk_ops.specs.declared.fault.CopyFault.{CopyFault}
 use Rattle.feed_history.specs.declared.corrections.Correction.{Correction}
-use Rattle.feed_history.specs.Rows.{IsSeat, Rise, at, bearing_by, fault_stamp, first, row_from, row_of}
-
--- what is not before itself
-pub not_before : (s : Stamp) → before s s ≡ false
-not_before s = by_cases (before s s) (λ e. absurd (before-irrefl s e)) (λ e. e)
-
--- what a search asks
-pub partitioned : {X : Type 0} (borne : X → Stamp) (xs : List X) (s : Stamp) → Rise borne xs → IsPartitionedBy (λ x. before (borne x) s) xs
-partitioned borne xs s up i j d le lt e = by_cases (before (borne (get_or xs i d)) s) (λ k. k)
-    (λ k. absurd (true≢false (sym (before-squeeze (borne (get_or xs j d)) (borne (get_or xs i d)) s e k) ∙ up i j d le lt)))
-
--- where one is smaller, all before it are, too
-pub early_more : {X : Type 0} (borne : X → Stamp) (xs : List X) (s : Stamp) (place : ℕ) → Rise borne xs → place < length xs → ((d : X) → before (borne (get_or xs place d)) s ≡ true)
-    → AllWithin (λ x. before (borne x) s ≡ true) xs 0 (place + 1)
-early_more borne xs s place up within here = λ k d low high. partitioned borne xs s up k place d (omega arith) within (here d)
-
--- where one is not, none behind it is
-pub late_more : {X : Type 0} (borne : X → Stamp) (xs : List X) (s : Stamp) (place : ℕ) → Rise borne xs → ((d : X) → before (borne (get_or xs place d)) s ≡ false)
-    → AllWithin (λ x. before (borne x) s ≡ false) xs place (length xs)
-late_more borne xs s place up here = λ k d low high. by_cases (before (borne (get_or xs k d)) s)
-    (λ e. absurd (true≢false (sym (partitioned borne xs s up place k d low high e) ∙ here d)))
-    (λ e. e)
+use Rattle.desk_replica.proofs.ByStamp.{not_before}
+use Rattle.desk_replica.specs.Seats.{IsSeat, Rise, fault_stamp}
+use Rattle.feed_history.specs.Rows.{at, bearing_by, first, row_from, row_of}
 
 -- what comes behind a greater stamp bears none that is smaller
 behind : (s t u : Stamp) → before s t ≡ true → before u t ≡ false → same u s ≡ false
@@ -109,17 +90,9 @@ row_of_none borne (x ∷ xs) row c b is e =
     let none : length (x ∷ xs) ≡ 0 = grind (arith, nat_tests) in
     absurd (omega (arith, none))
 
--- ---- operations and copy faults
+-- ---- copy faults
 
--- in order they are by stamp
-pub ops_rise : (ops : List Op) → IsOrdered ops → Rise stamp_of ops
-ops_rise [] up i j d le lt = absurd (omega arith)
-ops_rise (o ∷ ops) up zero zero d le lt = not_before (stamp_of o)
-ops_rise (o ∷ ops) up zero (suc j) d le lt = stamp_not_before o (get_or ops j d) (each-at (λ p. op_cmp o p ≡ Less) ops j d up.0 (omega arith))
-ops_rise (o ∷ ops) up (suc i) zero d le lt = absurd (omega arith)
-ops_rise (o ∷ ops) up (suc i) (suc j) d le lt = ops_rise ops up.1 i j d (omega arith) (omega arith)
-
--- copy faults are, too
+-- they are by stamp
 pub faults_rise : (faults : List CopyFault) → IsByStamp faults → Rise fault_stamp faults
 faults_rise [] up i j d le lt = absurd (omega arith)
 faults_rise (f ∷ faults) up zero zero d le lt = not_before f.stamp

@@ -10,7 +10,8 @@ use Rattle.desk_ops.specs.Op.{stamp_of}
 use Rattle.feed_history.specs.declared.corrections.Correction.{Correction}
 use Rattle.feed_history.specs.declared.spots.Spot.{Spot}
 use Rattle.feed_history.specs.declared.asked.Asked.{Asked}
-use Rattle.feed_history.specs.Rows.{fault_stamp, row_of}
+use Rattle.desk_replica.specs.Seats.{fault_stamp}
+use Rattle.feed_history.specs.Rows.{row_of}
 use Rattle.feed_history.specs.Corrections.{correction_to, ends}
 use Rattle.feed_history.specs.Spots.{place_of}
 use Rattle.feed_history.specs.Texts.{contains, deleted, inserted}

@@ -6,23 +6,9 @@ use Rattle.desk_ops.specs.declared.fault.CopyFault.{CopyFault}
 use Rattle.desk_ops.specs.Stamp.{before, same}
 use Rattle.feed_history.specs.declared.corrections.Correction.{Correction}
 
-abbrev pub fault_stamp : CopyFault → Stamp
-fault_stamp fault = fault.stamp
-
 -- a site's stamp of a counter
 abbrev pub at : ℕ → ℕ → Stamp
 at site counter = record { counter = counter; site = site }
-
--- no stamp is smaller than one before it
-abbrev pub Rise : {X : Type 0} → (X → Stamp) → List X → Type 0
-Rise {X} borne xs = (i j : ℕ) (d : X) → i ≤ j → j < length xs
-    → before (borne (slice_index_or xs j d)) (borne (slice_index_or xs i d)) ≡ false
-
--- the first place whose stamp is not smaller
-pub record IsSeat {X : Type 0} (borne : X → Stamp) (xs : List X) (s : Stamp) (place : ℕ) : Type 0 where
-  pub within : place ≤ length xs
-  pub early : AllWithin (λ x. before (borne x) s ≡ true) xs 0 place
-  pub late : AllWithin (λ x. before (borne x) s ≡ false) xs place (length xs)
 
 -- those that bear a stamp
 abbrev pub bearing_by : {X : Type 0} → (X → Stamp) → List X → Stamp → List X

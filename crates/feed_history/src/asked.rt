@@ -3,7 +3,7 @@
 ghost use Rattle.std.specs.Prelude.{◌≡◌, ◌++◌, ◌<◌, ◌^◌, All, IfOk, OnOk, length, string_bytes};
 ghost use Rattle.desk_ops.specs.Op.{IsLawful, stamp_of};
 ghost use Rattle.feed_history.specs.Asked.{asked_line, asked_lines, has_text, is_of, is_since, lines_from};
-ghost use Rattle.feed_history.specs.Rows.{Rise, fault_stamp};
+ghost use Rattle.desk_replica.specs.Seats.{Rise, fault_stamp};
 ghost use Rattle.feed_history.specs.Spots.{spot_stamp};
 ghost use Rattle.feed_history.specs.Taken.{AreTold};
 
@@ -15,6 +15,9 @@ use crate::texts::contains;
 use desk_memory::NoMemory;
 use desk_ops::{Stamp, Symbol};
 use std::alloc::Allocator;
+
+/// A line of a single operation has about so many bytes.
+const LINE: usize = 32;
 
 /// Which corrections are asked for: those of a site, those whose last counter is no smaller, and those that inserted or
 /// deleted a text.
@@ -153,8 +156,9 @@ pub fn asked_lines<A: Allocator + Copy>(
         ≡ asked_lines history.now.ops.now history.now.spots.now history.now.faults.now asked.now) }
 {
     let ends = ends_of(alloc, history.ops)?;
+    let bytes = ends.len().saturating_mul(LINE);
     let mut lines = Lines {
-        out: String::new(alloc),
+        out: String::with_capacity(alloc, bytes)?,
         near: Near::default(),
         parts: Parts::new(alloc),
     };

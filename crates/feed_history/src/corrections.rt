@@ -3,7 +3,7 @@
 ghost use Rattle.std.specs.Prelude.{◌≡◌, ℕ, ◌+◌, ◌≤◌, ◌<◌, ◌^◌, All, IfOk, OnOk, drop, length, slice_index_or};
 ghost use Rattle.desk_ops.specs.Held.{is_borne};
 ghost use Rattle.desk_ops.specs.Op.{IsLawful, stamp_of};
-ghost use Rattle.feed_history.specs.Rows.{Rise};
+ghost use Rattle.desk_replica.specs.Seats.{Rise};
 ghost use Rattle.feed_history.specs.Corrections.{AreEnds, correction_to, ends, first_to};
 
 use crate::stamped::first_bearing;
@@ -37,11 +37,16 @@ fn first_to(ops: &[Op], near: &mut usize, site: u16, last: u64) -> u64
     ensures within { result ≤ last }
 {
     let mut first = last;
+    let mut steps = 0;
     while first > 0 {
         let counter = first - 1;
-        if !is_borne(ops, near, Stamp { counter, site }) {
+        let mut place = near.saturating_sub(steps);
+        if !is_borne(ops, &mut place, Stamp { counter, site }) {
+            *near = place;
             return first;
         }
+        steps = near.saturating_sub(place).saturating_add(1).max(2);
+        *near = place;
         first = counter;
     }
     first
@@ -110,7 +115,7 @@ pub fn ends_of<A: Allocator + Copy>(alloc: A, ops: &[Op]) -> Result<Vec<Stamp, A
     ensures small { IfOk result (λ v. All (λ s. s.counter < 2 ^ 63) v.items) }
 {
     let mut next = Vec::new(alloc);
-    let mut ends = Vec::new(alloc);
+    let mut ends = Vec::with_capacity(alloc, ops.len())?;
     let mut at = ops.len();
     while at > 0 {
         at -= 1;

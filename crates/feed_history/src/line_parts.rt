@@ -2,7 +2,8 @@
 
 ghost use Rattle.std.specs.Prelude.{◌≡◌, ◌<◌, ◌^◌, OnOk, length};
 ghost use Rattle.desk_ops.specs.Op.{stamp_of};
-ghost use Rattle.feed_history.specs.Rows.{Rise, fault_stamp, row_of};
+ghost use Rattle.desk_replica.specs.Seats.{Rise, fault_stamp};
+ghost use Rattle.feed_history.specs.Rows.{row_of};
 ghost use Rattle.feed_history.specs.Spots.{first_of, spot_stamp, target_place};
 ghost use Rattle.feed_history.specs.Taken.{AreTold};
 ghost use Rattle.feed_history.specs.Texts.{deleted, inserted};

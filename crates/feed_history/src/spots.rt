@@ -2,13 +2,15 @@
 
 ghost use Rattle.std.specs.Prelude.{◌≡◌, ◌<◌, ◌^◌, IfOk, length};
 ghost use Rattle.desk_ops.specs.declared.op.Stamp.{Stamp};
-ghost use Rattle.feed_history.specs.Rows.{Rise, bearing_by};
+ghost use Rattle.desk_replica.specs.Seats.{Rise};
+ghost use Rattle.feed_history.specs.Rows.{bearing_by};
 ghost use Rattle.feed_history.specs.Spots.{first_of, own_place, place_of, spot_stamp, spots_from, symbol_of};
 ghost use Rattle.feed_history.specs.Spots.{target_place};
 
-use crate::stamped::{Stamped, first_bearing};
+use crate::stamped::first_bearing;
 use desk_memory::NoMemory;
 use desk_ops::{Op, Stamp, Style, Symbol};
+use desk_replica::Stamped;
 use desk_seq::Sequence;
 use std::alloc::Allocator;
 

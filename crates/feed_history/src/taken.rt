@@ -2,22 +2,24 @@
 
 ghost use Rattle.std.specs.Prelude.{[], None, ◌≡◌, ◌++◌, OnOk};
 ghost use Rattle.desk_ops.specs.Op.{stamp_of};
-ghost use Rattle.feed_history.specs.Rows.{Rise};
+ghost use Rattle.desk_replica.specs.Seats.{Rise};
 ghost use Rattle.feed_history.specs.Spots.{first_of, or_else, spot_stamp, target_place};
 ghost use Rattle.feed_history.specs.Taken.{AreTold};
 ghost use Rattle.feed_history.specs.Texts.{deleted, taken_symbols};
 
 use crate::spots::Spot;
-use crate::stamped::any_bearing;
+use crate::stamped::{any_bearing, first_bearing};
 use crate::texts::add_own;
 use desk_ops::{Op, Symbol};
 use std::alloc::{AllocError, Allocator};
 
 /// What deletes take: the symbols that they target, and the place of the first element that one targets, shown or not.
+/// The element of the next target is looked for near that of the last.
 #[derive(Drop)]
 pub struct Taken<A: Allocator> {
     pub symbols: Vec<Symbol, A>,
     pub place: Option<usize>,
+    near: usize,
 }
 
 impl<A: Allocator + Copy> Taken<A> {
@@ -26,6 +28,7 @@ impl<A: Allocator + Copy> Taken<A> {
         Taken {
             symbols: Vec::new(alloc),
             place: None,
+            near: 0,
         }
     }
 
@@ -52,7 +55,7 @@ impl<A: Allocator + Copy> Taken<A> {
         let Op::Delete { target, .. } = op else {
             return Ok(());
         };
-        if let Some(spot) = any_bearing(spots, *target) {
+        if let Some(spot) = first_bearing(spots, &mut self.near, *target) {
             if self.place.is_none() {
                 self.place = Some(spot.place);
             }

@@ -7,8 +7,8 @@ use Rattle.feed_history.proofs.corrections.ends_of.Goals as goal
 pub loop-at-init : goal.loop-at-init
 loop-at-init g c = record {
   within = omega arith;
-  so_far = ends_begun c.args.ops.now c.new-ends.result.items c.new-next.result.items c.new-ends.ensures.items c.new-next.ensures.items;
-  small = λ k d lt. let none : length c.new-ends.result.items ≡ 0 = ap length c.new-ends.ensures.items in absurd (omega (arith, none, lt));
+  so_far = ends_begun c.args.ops.now c.in_ok-ends.ends.items c.new-next.result.items c.in_ok-ends.ensures.items c.new-next.ensures.items;
+  small = λ k d lt. let none : length c.in_ok-ends.ends.items ≡ 0 = ap length c.in_ok-ends.ensures.items in absurd (omega (arith, none, lt));
 }
 
 pub returns-clause-ends : goal.returns-clause-ends

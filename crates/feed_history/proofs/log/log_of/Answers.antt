@@ -6,12 +6,14 @@ use Rattle.desk_ops.specs.Faults.{faults_of}
 use Rattle.desk_ops.proofs.Faulty.{faults_by_stamp}
 use Rattle.desk_ops.proofs.Means.{ordered}
 use Rattle.desk_walk.specs.Following.{entries_of}
-use Rattle.feed_history.specs.Rows.{Rise, bearing_by, fault_stamp}
+use Rattle.desk_replica.specs.Seats.{Rise, fault_stamp}
+use Rattle.feed_history.specs.Rows.{bearing_by}
 use Rattle.feed_history.specs.Spots.{spot_stamp, spots_from}
 use Rattle.feed_history.specs.Asked.{asked_lines}
 use Rattle.feed_history.proofs.Alike.{asked_alike}
 use Rattle.feed_history.specs.Taken.{AreTold}
-use Rattle.feed_history.proofs.Rows.{faults_rise, ops_rise}
+use Rattle.desk_replica.proofs.ByStamp.{ops_rise}
+use Rattle.feed_history.proofs.Rows.{faults_rise}
 use Rattle.feed_history.proofs.Told.{told}
 use Rattle.feed_history.proofs.log.log_of.Goals as goal
 

@@ -10,11 +10,11 @@ pub returns-then-from-items : goal.returns-then-from-items
 returns-then-from-items g c =
     let borne = g.T.Stamped.borne in
     let xs = c.args.items.now in
-    none_found borne c.args.stamp xs c.seat-from.result c.requires c.seat-from.ensures
+    none_found borne c.args.stamp xs c.next_seat-from.result c.requires c.next_seat-from.ensures
     (λ lt d. elim c.then-from-items.branch [
       | then-from-items-via-then-from-items w ↦ absurd (omega (arith, w.if-from-items.true, lt))
       | then-from-items-via-else-from-items+then-not-is_same w ↦
-          ap (λ x. same (borne x) c.args.stamp) (get_or_default xs c.seat-from.result d w.index-items-from.result lt ∙ sym w.index-items-from.is)
+          ap (λ x. same (borne x) c.args.stamp) (get_or_default xs c.next_seat-from.result d w.index-items-from.result lt ∙ sym w.index-items-from.is)
           ∙ sym (w.is_same.ensures ∙ ap (λ t. same t c.args.stamp) w.stamp_of.ensures) ∙ w.if-not-is_same.true
     ])
 
@@ -22,8 +22,8 @@ pub returns : goal.returns
 returns g c =
     let borne = g.T.Stamped.borne in
     let xs = c.args.items.now in
-    let lt : c.seat-from.result < length xs = omega (arith, c.seat-from.ensures.within, c.if-from-items.false) in
+    let lt : c.next_seat-from.result < length xs = omega (arith, c.next_seat-from.ensures.within, c.if-from-items.false) in
     ap Some c.index-items-from-2.is
-    ∙ first_found borne c.args.stamp xs c.seat-from.result c.index-items-from-2.result c.seat-from.ensures.early lt
-    (ap (λ x. same (borne x) c.args.stamp) (get_or_default xs c.seat-from.result c.index-items-from-2.result c.index-items-from.result lt ∙ sym c.index-items-from.is)
+    ∙ first_found borne c.args.stamp xs c.next_seat-from.result c.index-items-from-2.result c.next_seat-from.ensures.early lt
+    (ap (λ x. same (borne x) c.args.stamp) (get_or_default xs c.next_seat-from.result c.index-items-from-2.result c.index-items-from.result lt ∙ sym c.index-items-from.is)
     ∙ sym (c.is_same.ensures ∙ ap (λ t. same t c.args.stamp) c.stamp_of.ensures) ∙ c.if-not-is_same.false)

@@ -2,7 +2,7 @@ use Rattle.std.proofs.Common.{◌≡◌, ◌+◌, ◌-◌, ◌<◌, true, length
 use Rattle.std.specs.List.{AllWithin}
 use Rattle.std.proofs.lemmas.List.{get_or_default}
 use Rattle.desk_ops.specs.Stamp.{before}
-use Rattle.feed_history.proofs.Rows.{early_more, late_more}
+use Rattle.desk_replica.proofs.ByStamp.{early_more, late_more}
 use Rattle.feed_history.proofs.stamped.is_seat.Goals as goal
 
 pub returns-then-place-eq0 : goal.returns-then-place-eq0

@@ -5,11 +5,11 @@ use Rattle.feed_history.proofs.taken.Taken.add.Goals as goal
 
 pub returns-in_ok-add_own-clause-symbols : goal.returns-in_ok-add_own-clause-symbols
 returns-in_ok-add_own-clause-symbols g c =
-    c.in_ok-add_own.ensures ∙ ap (λ r. c.args.self.now.symbols.items ++ symbols_of r) (sym c.in-Some-any_bearing.is ∙ c.any_bearing-in_default-any_bearing.ensures)
+    c.in_ok-add_own.ensures ∙ ap (λ r. c.args.self.now.symbols.items ++ symbols_of r) (sym c.in-Some-any_bearing.is ∙ c.any_bearing.ensures)
     ∙ ap (λ o. c.args.self.now.symbols.items ++ taken_symbols c.args.all.now o) (sym c.in-Delete.is)
 
-pub returns-in_default-any_bearing-2-clause-symbols :
-    goal.returns-in_default-any_bearing-2-clause-symbols
-returns-in_default-any_bearing-2-clause-symbols g c =
-    sym (append-nil c.args.self.now.symbols.items) ∙ ap (λ r. c.args.self.now.symbols.items ++ symbols_of r) (sym c.in_default-any_bearing-2.is ∙ c.any_bearing-in_default-any_bearing.ensures)
+pub returns-in_default-any_bearing-clause-symbols :
+    goal.returns-in_default-any_bearing-clause-symbols
+returns-in_default-any_bearing-clause-symbols g c =
+    sym (append-nil c.args.self.now.symbols.items) ∙ ap (λ r. c.args.self.now.symbols.items ++ symbols_of r) (sym c.in_default-any_bearing.is ∙ c.any_bearing.ensures)
     ∙ ap (λ o. c.args.self.now.symbols.items ++ taken_symbols c.args.all.now o) (sym c.in-Delete.is)
