@@ -16,9 +16,12 @@ use Rattle.view_picture.specs.declared.paper.Paper.{Paper}
 -- how the classes of texts and boxes look: letters of a line from left to right as they stand in the copy and none of
 -- them joined, italic, small capitals, and those that the case lacks; lines at fault, causes, heads, numbers at the
 -- margin; boxes and the frame
-abbrev pub looks_text : List ℕ
+unfoldable pub looks_text : List ℕ
 looks_text =
-    codes "<style>text{font-family:Times New Roman,Liberation Serif,Times,serif;white-space:pre}.w{direction:ltr;unicode-bidi:bidi-override;font-variant-ligatures:none;font-kerning:none}.i{font-style:italic}.s{font-variant:small-caps;font-variant-caps:all-small-caps}.m{fill:#c00}.f,.c{fill:#b00}.c,.h,.n{font-family:sans-serif;font-size:8px}.n{fill:#777;text-anchor:end;user-select:none}.b{fill:#e4e9ef;stroke:#a9b4c0;stroke-width:.3}.frame{fill:#fff;stroke:#999;stroke-width:.5}</style>\n"
+    codes "text{font-family:Times New Roman,Liberation Serif,Times,serif;white-space:pre}.w{direction:ltr;unicode-bidi:bidi-override;font-variant-ligatures:none;font-kerning:none}.i{font-style:italic}.s{font-variant:small-caps;font-variant-caps:all-small-caps}.m{fill:#c00}.f,.c{fill:#b00}.c,.h,.n{font-family:sans-serif;font-size:8px}.n{fill:#777;text-anchor:end;user-select:none}.b{fill:#e4e9ef;stroke:#a9b4c0;stroke-width:.3}.frame{fill:#fff;stroke:#999;stroke-width:.5}"
+
+abbrev pub style_text : List ℕ
+style_text = codes "<style>" ++ (looks_text ++ codes "</style>\n")
 
 -- the beginning of a picture of this size
 abbrev pub size_text : (width height : ℕ) → List ℕ
@@ -35,7 +38,7 @@ abbrev pub begin_text : (width height : ℕ) → List ℕ
 begin_text width height =
     size_text width height
     ++ (points_text width height
-    ++ (looks_text ++ codes "<rect width=\"100%\" height=\"100%\" fill=\"#fbf9f2\"/>\n"))
+    ++ (style_text ++ codes "<rect width=\"100%\" height=\"100%\" fill=\"#fbf9f2\"/>\n"))
 
 -- the paper of a galley below so many heads
 abbrev pub paper_of : GalleyValues → ℕ → Paper

@@ -98,8 +98,8 @@ fn put_lacking_at<A: Allocator + Copy>(
     write!(out, " at place {place}")
 }
 
-/// Writes the symbol that a fault is of, if it is of one.
-fn put_lacking_of<A: Allocator + Copy>(
+/// Writes the symbol that a fault is of, and its place, if it is of one.
+pub fn put_lacking_of<A: Allocator + Copy>(
     out: &mut String<A>,
     copy: &[Symbol],
     fault: JobFault,

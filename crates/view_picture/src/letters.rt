@@ -1,20 +1,30 @@
 //! The characters of a word, with their styles.
 
 ghost use Rattle.std.specs.Prelude.{◌≡◌, ◌++◌, OnOk, string_bytes};
-ghost use Rattle.view_picture.specs.Letters.{changed, closed, dress_of, dress_of_style, opened, word_letters};
+ghost use Rattle.view_picture.specs.Letters.{changed, closed, dress_of, dress_of_held, dress_of_style, is_rule, opened};
+ghost use Rattle.view_picture.specs.Letters.{word_letters};
 
 use desk_case::MatrixCase;
 use desk_ops::{Style, Symbol};
 use std::alloc::{AllocError, Allocator};
 use view_galley::put_escaped;
 
-/// How a symbol is shown: by its style, or as one that the case lacks.
+/// How a symbol is shown: by its style, as a rule, or as one that the case lacks.
 #[derive(Clone, Copy, PartialEq, Eq, Debug)]
 pub enum Dress {
     Roman,
     Italic,
     SmallCap,
+    /// A dash, whose letter in the reader's font may be wider than its matrix.
+    Rule,
     Missing,
+}
+
+/// Whether a character is a dash that is cast as a rule: an en rule, an em rule, or a bar.
+fn is_rule(ch: char) -> bool
+    ensures { result ≡ is_rule ch }
+{
+    matches!(ch, '\u{2013}' | '\u{2014}' | '\u{2015}')
 }
 
 fn dress_of_style(style: Style) -> Dress
@@ -27,11 +37,23 @@ fn dress_of_style(style: Style) -> Dress
     }
 }
 
-fn dress_of(case: &MatrixCase, symbol: Symbol) -> Dress
+/// How a symbol that the case has is shown.
+fn dress_of_held(symbol: Symbol) -> Dress
+    ensures { result ≡ dress_of_held symbol }
+{
+    if is_rule(symbol.ch) {
+        Dress::Rule
+    } else {
+        dress_of_style(symbol.style)
+    }
+}
+
+/// How a symbol is shown.
+pub fn dress_of(case: &MatrixCase, symbol: Symbol) -> Dress
     ensures { result ≡ dress_of case.now symbol }
 {
     if case.cell_of(symbol).is_some() {
-        dress_of_style(symbol.style)
+        dress_of_held(symbol)
     } else {
         Dress::Missing
     }
@@ -45,6 +67,7 @@ fn opened(dress: Dress) -> &'static str
         Dress::Roman => "",
         Dress::Italic => "<tspan class=\"i\">",
         Dress::SmallCap => "<tspan class=\"s\">",
+        Dress::Rule => "<tspan class=\"e\">",
         Dress::Missing => "<tspan class=\"m\">",
     }
 }
@@ -55,7 +78,7 @@ fn closed(dress: Dress) -> &'static str
 {
     match dress {
         Dress::Roman => "",
-        Dress::Italic | Dress::SmallCap | Dress::Missing => "</tspan>",
+        Dress::Italic | Dress::SmallCap | Dress::Rule | Dress::Missing => "</tspan>",
     }
 }
 

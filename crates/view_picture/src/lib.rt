@@ -16,12 +16,19 @@ mod heads;
 pub mod laws;
 mod letters;
 mod lines;
-mod paper;
+pub mod paper;
 mod picture;
 mod picturing;
 mod places;
 mod widths;
 mod words;
 
-pub use picture::{put_no_galley_picture, put_picture};
+pub use heads::{head_y, put_lacking_of};
+pub use letters::{Dress, dress_of};
+pub use lines::{put_line_at, put_text_at};
+pub use picture::{
+    frame_height, looks, page_width, paper_of, put_frame, put_no_galley_picture, put_picture,
+    put_size, put_why_words,
+};
 pub use picturing::picture_job;
+pub use widths::drawn_space;

@@ -144,8 +144,8 @@ fn put_fault<A: Allocator + Copy>(
     out.push_str(text_end())
 }
 
-/// Writes a line that stands here.
-fn put_line_at<A: Allocator + Copy>(
+/// Writes a line whose letters stand here, from the top: its number and its place, its words, its boxes and its fault.
+pub fn put_line_at<A: Allocator + Copy>(
     out: &mut String<A>,
     terms: &Terms,
     copy: &[Symbol],

@@ -7,7 +7,8 @@ ghost use Rattle.view_picture.specs.Picture.{begin_text, frame_height, frame_tex
 ghost use Rattle.view_picture.specs.Picture.{group_text};
 ghost use Rattle.view_picture.specs.Picture.{looks_text, no_galley_picture, page_height, page_text, page_width};
 ghost use Rattle.view_picture.specs.Picture.{paper_of};
-ghost use Rattle.view_picture.specs.Picture.{picture_on, picture_text, points_text, size_text, why_text, why_words};
+ghost use Rattle.view_picture.specs.Picture.{picture_on, picture_text, points_text, size_text, style_text, why_text};
+ghost use Rattle.view_picture.specs.Picture.{why_words};
 
 use crate::heads::{head_count, head_y, put_copy_faults, put_heads};
 use crate::lines::{put_lines, put_text_at};
@@ -19,20 +20,30 @@ use std::alloc::{AllocError, Allocator};
 use view_galley::{Galley, put_attribute, put_hundredths, text_end};
 use view_proof::{NoGalley, put_reason, scale_of};
 
-/// How the classes of texts and boxes look.
-fn looks() -> &'static str
+/// How the classes of texts and boxes look, as CSS.
+#[tactic(auto, unfolding(crate::specs::Picture::looks_text))]
+pub fn looks() -> &'static str
     ensures { result.now ≡ looks_text }
 {
-    "<style>text{font-family:Times New Roman,Liberation Serif,Times,serif;white-space:pre}\
+    "text{font-family:Times New Roman,Liberation Serif,Times,serif;white-space:pre}\
     .w{direction:ltr;unicode-bidi:bidi-override;font-variant-ligatures:none;font-kerning:none}\
     .i{font-style:italic}.s{font-variant:small-caps;font-variant-caps:all-small-caps}.m{fill:#c00}\
     .f,.c{fill:#b00}.c,.h,.n{font-family:sans-serif;font-size:8px}\
     .n{fill:#777;text-anchor:end;user-select:none}.b{fill:#e4e9ef;stroke:#a9b4c0;stroke-width:.3}\
-    .frame{fill:#fff;stroke:#999;stroke-width:.5}</style>\n"
+    .frame{fill:#fff;stroke:#999;stroke-width:.5}"
 }
 
-/// Writes the beginning of a picture, up to its size in points.
-fn put_size<A: Allocator + Copy>(
+/// Writes how the classes of texts and boxes look.
+fn put_looks<A: Allocator + Copy>(out: &mut String<A>) -> Result<(), AllocError>
+    ensures { OnOk result (string_bytes out.new ≡ string_bytes out.old ++ style_text) }
+{
+    out.push_str("<style>")?;
+    out.push_str(looks())?;
+    out.push_str("</style>\n")
+}
+
+/// Writes the beginning of a picture of so many hundredths of a point, up to its size in points.
+pub fn put_size<A: Allocator + Copy>(
     out: &mut String<A>,
     width: u128,
     height: u128,
@@ -72,12 +83,12 @@ fn put_begin<A: Allocator + Copy>(
 {
     put_size(out, width, height)?;
     put_points(out, width, height)?;
-    out.push_str(looks())?;
+    put_looks(out)?;
     out.push_str("<rect width=\"100%\" height=\"100%\" fill=\"#fbf9f2\"/>\n")
 }
 
 /// The paper of a galley below so many heads.
-fn paper_of<'a, A: Allocator>(galley: &Galley<'a, A>, heads: u128) -> Paper
+pub fn paper_of<'a, A: Allocator>(galley: &Galley<'a, A>, heads: u128) -> Paper
     requires { heads ≤ 2 ^ 80 }
     ensures value { result ≡ paper_of galley.now heads }
     ensures limit { result.top ≤ 2 ^ 96 }
@@ -89,16 +100,16 @@ fn paper_of<'a, A: Allocator>(galley: &Galley<'a, A>, heads: u128) -> Paper
     }
 }
 
-/// How high the frame of so many lines is.
-fn frame_height(paper: Paper, lines: usize) -> u128
+/// How high the frame of so many lines is, in hundredths of a point.
+pub fn frame_height(paper: Paper, lines: usize) -> u128
     ensures value { result ≡ frame_height paper lines }
     ensures limit { result ≤ 2 ^ 98 }
 {
     leading(paper) * lines as u128 + paper.set as u128 / 2
 }
 
-/// Writes the frame of the measure.
-fn put_frame<A: Allocator + Copy>(
+/// Writes the frame of the measure, of this width and height in hundredths of a point.
+pub fn put_frame<A: Allocator + Copy>(
     out: &mut String<A>,
     paper: Paper,
     width: u128,
@@ -133,8 +144,9 @@ fn put_group<'a, A: Allocator + Copy>(
     out.push_str("</g>\n")
 }
 
-/// How wide the picture of a galley is: 270 points beside the frame, or the widest line, are for the causes.
-fn page_width<'a, A: Allocator>(paper: Paper, galley: &Galley<'a, A>) -> u128
+/// How wide the picture of a galley is, in hundredths of a point: 270 points beside the frame, or the widest line, are
+/// for the causes.
+pub fn page_width<'a, A: Allocator>(paper: Paper, galley: &Galley<'a, A>) -> u128
     ensures { result ≡ page_width paper galley.now }
 {
     across(paper.scale.pica, widest(galley.terms(), galley.lines())) + 27_000
@@ -222,7 +234,10 @@ pub fn put_picture<'a, A: Allocator + Copy>(
 }
 
 /// Writes why there is no galley, in words.
-fn put_why_words<A: Allocator + Copy>(out: &mut String<A>, why: &NoGalley) -> Result<(), AllocError>
+pub fn put_why_words<A: Allocator + Copy>(
+    out: &mut String<A>,
+    why: &NoGalley,
+) -> Result<(), AllocError>
     ensures { OnOk result (string_bytes out.new ≡ string_bytes out.old ++ why_words why.now) }
 {
     out.push_str("no galley: ")?;

@@ -332,8 +332,8 @@ fn put_spaced<A: Allocator + Copy>(
     }
 }
 
-/// Writes the way out of a line's fault.
-fn put_way<A: Allocator + Copy>(
+/// Writes the way out of a line's fault, for a compositor: what its spaces lack or have too much, in points to a tenth.
+pub fn put_way<A: Allocator + Copy>(
     out: &mut String<A>,
     copy: &[Symbol],
     scale: Scale,

@@ -21,12 +21,12 @@ mod proof;
 mod reasons;
 mod scale;
 
-pub use faults::{cause, meaning, put_cause};
+pub use faults::{cause, meaning, put_cause, put_way};
 pub use lacking::{put_around, put_code, put_name, style_word};
 pub use marked::put_marked;
 pub use parts::{
     begin_of, put_left, put_number, put_points_down, put_points_up, put_right, put_symbols,
 };
-pub use proof::{Extent, put_head_words, put_no_galley, put_proof, scale_of};
+pub use proof::{Extent, put_head_words, put_no_galley, put_proof, put_values, scale_of};
 pub use reasons::{NoGalley, OtherNumber, missing, other_number, put_reason, why_none};
 pub use scale::Scale;

@@ -70,8 +70,11 @@ fn put_sorts<A: Allocator + Copy>(out: &mut String<A>, count: usize) -> Result<(
     }
 }
 
-/// Writes what the lines are set by.
-fn put_values<A: Allocator + Copy>(out: &mut String<A>, values: Values) -> Result<(), AllocError>
+/// Writes what the lines are set by: the measure in points, and the limits of a wedge sum.
+pub fn put_values<A: Allocator + Copy>(
+    out: &mut String<A>,
+    values: Values,
+) -> Result<(), AllocError>
     ensures { OnOk result (string_bytes out.new ≡ string_bytes out.old ++ values_text values) }
 {
     write!(out, "measure {} points, ", values.measure)?;

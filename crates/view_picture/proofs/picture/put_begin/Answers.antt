@@ -1,4 +1,4 @@
-use Rattle.std.proofs.Common.{ap, ◌∙◌, ◌++◌, string_bytes}
+use Rattle.std.proofs.Common.{string_bytes}
 use Rattle.std.specs.Prelude.{codes}
 use Rattle.view_proof.proofs.Texts.{four}
 use Rattle.view_picture.proofs.Texts.{pushed}
@@ -6,5 +6,5 @@ use Rattle.view_picture.proofs.picture.put_begin.Goals as goal
 
 pub returns : goal.returns
 returns g c =
-    four c.push_str-2.result (string_bytes c.args.out.now) (string_bytes c.put_size.new.out) (string_bytes c.put_points.new.out) (string_bytes c.push_str.new.self) (string_bytes c.push_str-2.new.self) _ _ _ _
-    c.in_ok-put_size.ensures c.in_ok-put_points.ensures (c.in_ok-push_str.ensures.bytes ∙ ap (λ l. string_bytes c.put_points.new.out ++ l) c.looks.ensures) (pushed c.push_str-2.result (string_bytes c.push_str.new.self) (string_bytes c.push_str-2.new.self) (codes "<rect width=\"100%\" height=\"100%\" fill=\"#fbf9f2\"/>\n") c.push_str-2.ensures.bytes)
+    four c.push_str.result (string_bytes c.args.out.now) (string_bytes c.put_size.new.out) (string_bytes c.put_points.new.out) (string_bytes c.put_looks.new.out) (string_bytes c.push_str.new.self) _ _ _ _
+    c.in_ok-put_size.ensures c.in_ok-put_points.ensures c.in_ok-put_looks.ensures (pushed c.push_str.result (string_bytes c.put_looks.new.out) (string_bytes c.push_str.new.self) (codes "<rect width=\"100%\" height=\"100%\" fill=\"#fbf9f2\"/>\n") c.push_str.ensures.bytes)
