@@ -33,13 +33,14 @@ pub enum SourcesFault {
 
 // ---- the calls
 
-/// Why a stored feed is not punched, proofed or drawn, by the phase in which it stopped.
+/// Why a stored feed or a text is not punched, proofed or drawn, by the phase in which it stopped.
 #[derive(Clone, Copy, Debug, PartialEq, Eq, Error)]
 pub enum PreviewFault {
     /// The stored feed is not opened, or the file of the text that is to be set is not read.
     #[error("{0}")]
     Feed(FeedTrouble),
-    /// The text that is to be set has more than 8,388,608 bytes, or more than 1,048,576 symbols.
+    /// The text that is to be set has more than 8,388,608 bytes, or more than 1,048,576 symbols; or the ribbon of
+    /// several feeds has more than 67,108,864 bytes.
     #[error("too long")]
     TooLong,
     /// The case or the wedge is not read, or is refused.
@@ -55,10 +56,10 @@ pub enum PreviewFault {
     /// The writer failed, or took no byte.
     #[error("write fault")]
     Write,
-    /// The ribbon or the picture was made, and a file of this kind stands under the target, which is left.
+    /// The ribbon, picture or document was made, and a file of this kind stands under the target, which is left.
     #[error("not replaced")]
     Taken(Kind),
-    /// The ribbon or the picture was made, and not stored, or what stands under the target was not read.
+    /// The ribbon, picture or document was made, and not stored, or what stands under the target was not read.
     #[error("file fault")]
     Unstored(FileRefusal),
     /// The text that is to be set, or looked for, is no copy: its first fault. Out of memory is `NoMemory`.
