@@ -1,0 +1,11 @@
+pub mod Texts
+pub mod Escapes
+pub mod NextEdge
+pub mod NextDash
+pub mod NextPage
+pub mod NextAlone
+pub mod Shares
+pub mod Heights
+pub mod Found
+pub mod Putting
+pub mod Beginnings

@@ -1,0 +1,14 @@
+use Rattle.std.proofs.Common.{string_bytes, arith}
+use Rattle.view_picture.proofs.NextPlace.{next_end}
+use Rattle.view_pages.proofs.NextEdge.{next_edge}
+use Rattle.view_pages.proofs.edges.put_symbol_edges.Goals as goal
+
+pub loop-symbol-preserved : goal.loop-symbol-preserved
+loop-symbol-preserved g c = (
+  next_edge c.args.terms.now c.args.paper c.args.y c.loop-symbol.end c.symbol_width.result c.loop-symbol.symbol-index c.args.word.now _ (string_bytes c.loop-symbol.out) (string_bytes c.put_edge.new.out) _
+      c.loop-symbol-test.true c.symbol_width.ensures.value c.in_ok-put_edge.ensures c.loop-symbol.invariant.0,
+  (
+    next_end c.args.terms.now c.loop-symbol.end c.symbol_width.result c.loop-symbol.symbol-index c.args.word.now _ _ c.loop-symbol-test.true c.symbol_width.ensures.value c.loop-symbol.invariant.1.0,
+    omega (arith, c.loop-symbol.invariant.1.1, c.symbol_width.ensures.limit),
+  ),
+)

@@ -1,0 +1,15 @@
+pub mod Tags
+pub mod Names
+pub mod Screen
+pub mod Layouts
+pub mod Edges
+pub mod Lists
+pub mod Table
+pub mod Report
+pub mod Dashes
+pub mod Pages
+pub mod Alone
+pub mod Document
+pub mod Documenting
+pub mod Numbering
+pub mod Laws
