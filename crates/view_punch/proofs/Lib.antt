@@ -1,5 +1,7 @@
-pub mod Gives
+pub mod Joined
 pub mod Punches
+pub mod CastOrder
+pub mod AllRows
 pub mod Tallies
 pub mod PlaceByPlace
 pub mod Found

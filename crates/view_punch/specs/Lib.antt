@@ -1,6 +1,9 @@
 pub mod Laws
 pub mod Lines
+pub mod Making
+pub mod Joining
 pub mod Punching
+pub mod Adding
 pub mod Sorts
 pub mod Places
 pub mod SortsLaws

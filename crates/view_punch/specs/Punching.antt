@@ -1,120 +1,151 @@
--- The ribbon of a stored feed, stored under a name; or the faults of its copy or of its job.
-use Rattle.std.specs.Prelude.{◌≡◌, ◌≢◌, ◌⊎◌, ℕ, Bool, false, List, [], Option, Result, Ok, Err}
-use Rattle.std.specs.Io.KnownBytes.{Appends}
+-- The ribbon of stored feeds, one galley after the other, stored under a name; or why there is none.
+use Rattle.std.specs.Prelude.{◌≡◌, ◌⊎◌, ◌≤◌, ℕ, suc, Bool, List, [], ◌∷◌, ◌++◌, length, Option, None, Ok}
+use Rattle.std.specs.Borrow.{Bor}
 use Rattle.desk_ops.specs.OpSet.{OpSet}
-use Rattle.desk_ops.specs.Faults.{faults_of}
-use Rattle.desk_ops.specs.declared.op.Key.{Key}
+use Rattle.desk_ops.specs.Settings.{setting_of}
+use Rattle.desk_ops.specs.Shown.{copy_of}
 use Rattle.desk_signals.specs.declared.RibbonRow.{RibbonRow}
 use Rattle.desk_case.specs.Case.{CaseValues}
 use Rattle.desk_wedge.specs.Wedge.{WedgeValues}
 use Rattle.desk_ribbon.specs.Ribbon.{ribbon}
-use Rattle.desk_job.specs.declared.JobFault.{JobFault}
-use Rattle.desk_job.specs.Answer.{by_key}
-use Rattle.desk_replica.specs.JobSettings.{settings_of}
-use Rattle.view_proof.specs.Reasons.{missing, other_number}
-use Rattle.view_proof.specs.declared.reasons.OtherNumber.{OtherNumber}
-use Rattle.view_punch.specs.Lines.{job_line}
-use Rattle.feed_files.specs.Files.{IsReplaced, Shelf, Stays}
+use Rattle.desk_caster.specs.Caster.{Line, cast}
+use Rattle.desk_caster.specs.Reading.{IsRibbon}
+use Rattle.desk_job.specs.Job.{lines, terms_of, values_of}
+use Rattle.desk_job.specs.Reading.{AreLines}
+use Rattle.desk_job.specs.declared.terms.Values.{Values}
+use Rattle.feed_files.specs.Files.{Has, IsReplaced, Shelf, Stays, max_file}
 use Rattle.feed_files.specs.Outputs.{Destination, GivesWay, IsNotPut}
 use Rattle.feed_files.specs.declared.output_fault.OutputFault.{OutputFault}
-use Rattle.feed_files.specs.declared.output_fault.OutputFault.TheVariants as outputs
 use Rattle.feed_files.specs.declared.kinds.Kind.TheVariants as kinds
-use Rattle.feed_stored.specs.Sending.{WritesPrefix}
-use Rattle.feed_edit.specs.Merging.{faults_line}
-use Rattle.script_answers.specs.Job.{job_of}
-use Rattle.view_preview.specs.Sources.{AreRefused, Give, LackMemory}
-use Rattle.view_preview.specs.declared.sources.Sources.{Sources}
-use Rattle.view_punch.specs.declared.fault.LineFault.{LineFault}
-use Rattle.view_punch.specs.declared.fault.LineFault.TheVariants as lines
+use Rattle.feed_edit.specs.Exporting.{IsClosedBy, IsSetOf}
+use Rattle.feed_edit.specs.declared.fault.FeedTrouble.{FeedTrouble}
+use Rattle.script_answers.specs.Inputs.{BothGive}
+use Rattle.view_preview.specs.Faults.{of_output}
+use Rattle.view_preview.specs.Sources.{AreRefused, of_sources}
 use Rattle.view_preview.specs.declared.fault.PreviewFault.{PreviewFault}
 use Rattle.view_preview.specs.declared.fault.PreviewFault.TheVariants as faults
-use Rattle.view_preview.specs.declared.fault.SourcesFault.TheVariants as refusals
+use Rattle.view_preview.specs.declared.fault.SourcesFault.{SourcesFault}
+use Rattle.view_preview.specs.declared.sources.Sources.{Sources}
+use Rattle.view_punch.specs.Joining.{IsTooLong}
+use Rattle.view_punch.specs.Making.{HasRows, IsUnmade}
+use Rattle.view_punch.specs.declared.punching.Galleys.{Galleys}
+use Rattle.view_punch.specs.declared.punching.Stop.{Stop}
 
--- ---- what is written
+-- ---- what a ribbon is made of
 
--- what a line that is not written is for a preview
-abbrev pub of_line : LineFault → PreviewFault
-of_line lines.NoMemory = faults.NoMemory
-of_line lines.Write = faults.Write
+-- the names of the feeds, in their order
+abbrev pub feeds_of : Galleys → List (Bor (List ℕ))
+feeds_of from = from.first ∷ from.others.now
 
--- ---- the faults of a copy
+-- one of them, with the case and the wedge
+abbrev pub source_of : Galleys → Bor (List ℕ) → Sources
+source_of from feed = record { version = record { feed = feed; until = None }; case = from.case; wedge = from.wedge }
 
--- a copy is let through: it has no fault, or faults are let through
-abbrev pub IsLetThrough : Bool → OpSet → Type 0
-IsLetThrough faulty set = faulty ≡ false → faults_of set ≡ []
+-- the two files give this case and this wedge
+abbrev pub GiveMetal : Galleys → Shelf → CaseValues → WedgeValues → Type 0
+GiveMetal from shelf case wedge = BothGive from.case.now from.wedge.now shelf (Ok (case, wedge)) shelf
 
--- it has faults, and these are not let through
-abbrev pub IsBarred : Bool → OpSet → Type 0
-IsBarred faulty set = (faulty ≡ false) × (faults_of set ≢ [])
+-- ---- rows
 
--- why a copy was not let through: it has faults, and their line was written, or a prefix of it; or memory ran out
--- before that
-abbrev pub IsStopped : Bool → OpSet → Option (List ℕ) → Option (List ℕ) → PreviewFault → Type 0
-IsStopped faulty set before after fault =
-    ((fault ≡ faults.CopyFaults) × IsBarred faulty set × Appends before after (faults_line set))
-    ⊎ ((fault ≡ faults.Write) × IsBarred faulty set × WritesPrefix before after (faults_line set))
-    ⊎ ((fault ≡ faults.NoMemory) × (after ≡ before))
+-- the name stands for a feed whose copy is let through, and whose job has these rows
+abbrev pub IsGalleyOf : Bool → CaseValues → WedgeValues → Shelf → List ℕ → List RibbonRow → Type 0
+IsGalleyOf faulty case wedge shelf feed rows =
+    (set : OpSet) × IsSetOf feed shelf set × HasRows faulty set case wedge rows
 
--- the copy of what the sources give is not let through, and this is the line of its faults
-abbrev pub HasCopyFaults : Sources → Bool → Shelf → List ℕ → Type 0
-HasCopyFaults from faulty shelf line =
-    (set : OpSet) × (case : CaseValues) × (wedge : WedgeValues) × Give from shelf set case wedge × IsBarred faulty set
-    × (line ≡ faults_line set)
+-- so do these names, and the rows of each come after those of the one before
+abbrev pub AreGalleysOf : Bool → CaseValues → WedgeValues → Shelf → List (Bor (List ℕ)) → List RibbonRow → Type 0
+AreGalleysOf faulty case wedge shelf [] rows = rows ≡ []
+AreGalleysOf faulty case wedge shelf (feed ∷ feeds) rows =
+    (head rest : List RibbonRow) × IsGalleyOf faulty case wedge shelf feed.now head
+    × AreGalleysOf faulty case wedge shelf feeds rest × (rows ≡ head ++ rest)
 
--- ---- the job
+-- ---- lines
 
--- the job of what the sources give, whose copy is let through, by its rows or its faults
-abbrev pub IsJobOf : Sources → Bool → Shelf → Result (List RibbonRow) (List JobFault) → Type 0
-IsJobOf from faulty shelf made =
-    (set : OpSet) × (case : CaseValues) × (wedge : WedgeValues) × Give from shelf set case wedge
-    × IsLetThrough faulty set × (job_of set case wedge ≡ made)
+-- the cast lines are those of the copy of a set, by its settings
+abbrev pub AreLinesOf : OpSet → CaseValues → WedgeValues → List Line → Type 0
+AreLinesOf set case wedge got =
+    (values : Values) × (values_of (setting_of set) ≡ Ok values)
+    × AreLines (terms_of case wedge values) (lines (terms_of case wedge values) (copy_of set)) got
 
--- the settings of a set that are missing, and the number that is another
-abbrev pub missing_of : OpSet → List Key
-missing_of set = missing (by_key (settings_of set))
+-- they are those of the copies of these feeds, in their order
+abbrev pub AreLinesOfAll : CaseValues → WedgeValues → Shelf → List (Bor (List ℕ)) → List Line → Type 0
+AreLinesOfAll case wedge shelf [] got = got ≡ []
+AreLinesOfAll case wedge shelf (feed ∷ feeds) got =
+    (set : OpSet) × IsSetOf feed.now shelf set × (head rest : List Line) × AreLinesOf set case wedge head
+    × AreLinesOfAll case wedge shelf feeds rest × (got ≡ head ++ rest)
 
-abbrev pub other_of : OpSet → CaseValues → WedgeValues → Option OtherNumber
-other_of set case wedge = other_number (by_key (settings_of set)) case wedge
+-- bytes are a ribbon, and its rows cast the lines of these feeds, in their order
+abbrev pub CastsAll : CaseValues → WedgeValues → Shelf → List (Bor (List ℕ)) → List ℕ → Type 0
+CastsAll case wedge shelf feeds bytes =
+    (rows : List RibbonRow) × IsRibbon bytes rows × (got : List Line) × (cast case wedge rows ≡ Ok got)
+    × AreLinesOfAll case wedge shelf feeds got
 
--- the job has faults: this is their line, with all the settings that are missing, and this number is another, if one is
-abbrev pub HasJobFaults : Sources → Bool → Shelf → Option OtherNumber → List ℕ → Type 0
-HasJobFaults from faulty shelf other line =
-    (set : OpSet) × (case : CaseValues) × (wedge : WedgeValues) × (found : List JobFault)
-    × Give from shelf set case wedge × IsLetThrough faulty set × (job_of set case wedge ≡ Err found)
-    × (line ≡ job_line (missing_of set) found) × (other ≡ other_of set case wedge)
+-- ---- the ribbon of all
 
--- the job has rows, and the target, where nothing stood but a ribbon, or which is forced, stands for their ribbon
-abbrev pub IsPunched : Sources → Destination → Bool → Shelf → Shelf → Type 0
+-- the case and the wedge are given, each feed has a job with rows, and the bytes are the ribbon of all of them, which
+-- is not too long, and which casts the lines of each feed
+abbrev pub AreMade : Galleys → Bool → Shelf → List ℕ → Type 0
+AreMade from faulty shelf bytes =
+    (case : CaseValues) × (wedge : WedgeValues) × GiveMetal from shelf case wedge
+    × (rows : List RibbonRow) × AreGalleysOf faulty case wedge shelf (feeds_of from) rows × (bytes ≡ ribbon rows)
+    × (length bytes ≤ max_file) × CastsAll case wedge shelf (feeds_of from) bytes
+
+-- they are, and the target, where nothing stood but a ribbon, or which is forced, stands for that ribbon
+abbrev pub IsPunched : Galleys → Destination → Bool → Shelf → Shelf → Type 0
 IsPunched from to faulty before after =
-    (rows : List RibbonRow) × IsJobOf from faulty before (Ok rows) × GivesWay to kinds.Ribbon before.kept
-    × IsReplaced to.name (ribbon rows) before.kept after.kept
+    (bytes : List ℕ) × AreMade from faulty before bytes × GivesWay to kinds.Ribbon before.kept
+    × IsReplaced to.name bytes before.kept after.kept
 
--- the job has rows, and their ribbon was not stored
-abbrev pub IsMadeOnly : Sources → Destination → Bool → Shelf → Shelf → OutputFault → Type 0
-IsMadeOnly from to faulty first last why = (rows : List RibbonRow) × IsJobOf from faulty first (Ok rows)
-    × IsNotPut to kinds.Ribbon first last why
+-- ---- why there is none
+
+-- the first feeds have these rows, so many of them, and this is the next
+abbrev pub IsNext : Galleys → Bool → CaseValues → WedgeValues → Shelf → ℕ → Bor (List ℕ) → List RibbonRow → Type 0
+IsNext from faulty case wedge shelf at feed rows =
+    (prefix tail : List (Bor (List ℕ))) × (feeds_of from ≡ prefix ++ feed ∷ tail) × (length prefix ≡ at)
+    × AreGalleysOf faulty case wedge shelf prefix rows
+
+-- The rows of a feed were not added to these: the feed is not opened; or its copy is barred, or its job has faults, or
+-- memory ran out; or the ribbon of all would be too long. Then nothing was written, but where there are faults.
+abbrev pub IsUnadded : Bool → CaseValues → WedgeValues → List ℕ → List RibbonRow → (first last : Shelf)
+    → (before after : Option (List ℕ)) → PreviewFault → Type 0
+IsUnadded faulty case wedge feed rows first last before after fault =
+    ((after ≡ before) × (why : FeedTrouble) × (fault ≡ faults.Feed why) × IsClosedBy feed first last why)
+    ⊎ ((last ≡ first) × (set : OpSet) × IsSetOf feed first set
+    × IsUnmade faulty set case wedge before after fault)
+    ⊎ ((last ≡ first) × (after ≡ before) × (more : List RibbonRow) × IsGalleyOf faulty case wedge first feed more
+    × IsTooLong (length (ribbon (rows ++ more))) fault)
+
+-- the first feed is not opened, or it is, and the case or the wedge is not given
+abbrev pub IsUnbegun : Galleys → (first last : Shelf) → (before after : Option (List ℕ)) → PreviewFault → Type 0
+IsUnbegun from first last before after fault =
+    (after ≡ before) × (why : SourcesFault) × (fault ≡ of_sources why)
+    × AreRefused (source_of from from.first) first last why
+
+-- the case and the wedge are given, and the feed of this place did not add its rows to those of the feeds before it
+abbrev pub StopsAt : Galleys → Bool → (first last : Shelf) → (before after : Option (List ℕ)) → ℕ → PreviewFault
+    → Type 0
+StopsAt from faulty first last before after at fault =
+    (case : CaseValues) × (wedge : WedgeValues) × GiveMetal from first case wedge
+    × (feed : Bor (List ℕ)) × (rows : List RibbonRow) × IsNext from faulty case wedge first at feed rows
+    × IsUnadded faulty case wedge feed.now rows first last before after fault
+
+-- the ribbon of all was not made, by the feed of this place
+abbrev pub AreUnmade : Galleys → Bool → (first last : Shelf) → (before after : Option (List ℕ)) → Stop → Type 0
+AreUnmade from faulty first last before after stop =
+    ((stop.feed ≡ 0) × IsUnbegun from first last before after stop.why)
+    ⊎ StopsAt from faulty first last before after stop.feed stop.why
+
+-- it was made, and not stored: the place is that of the last feed
+abbrev pub AreMadeOnly : Galleys → Destination → Bool → (first last : Shelf) → (before after : Option (List ℕ)) → Stop
+    → Type 0
+AreMadeOnly from to faulty first last before after stop =
+    (suc stop.feed ≡ length (feeds_of from)) × (after ≡ before) × (bytes : List ℕ) × AreMade from faulty first bytes
+    × (why : OutputFault) × (stop.why ≡ of_output why) × IsNotPut to kinds.Ribbon first last why
 
 -- Why no ribbon was stored, and what was written. No file has changed but, where the ribbon was not stored, that of the
 -- writing.
-abbrev pub IsUnpunched : Sources → Destination → Bool → Shelf → Shelf → Option (List ℕ) → Option (List ℕ) → PreviewFault
+abbrev pub IsUnpunched : Galleys → Destination → Bool → (first last : Shelf) → (before after : Option (List ℕ)) → Stop
     → Type 0
-IsUnpunched from to faulty first last before after (faults.Feed why) = (after ≡ before) × Stays first last
-    × AreRefused from first last (refusals.Feed why)
-IsUnpunched from to faulty first last before after (faults.Input why) = (after ≡ before) × Stays first last
-    × AreRefused from first last (refusals.Input why)
-IsUnpunched from to faulty first last before after faults.CopyFaults =
-    (last ≡ first) × (line : List ℕ) × HasCopyFaults from faulty first line × Appends before after line
-IsUnpunched from to faulty first last before after (faults.Faulty other) =
-    (last ≡ first) × (line : List ℕ) × HasJobFaults from faulty first other line × Appends before after line
-IsUnpunched from to faulty first last before after faults.Write =
-    (last ≡ first) × (line : List ℕ)
-    × (HasCopyFaults from faulty first line
-    ⊎ ((other : Option OtherNumber) × HasJobFaults from faulty first other line))
-    × WritesPrefix before after line
-IsUnpunched from to faulty first last before after (faults.Taken kind) =
-    (after ≡ before) × IsMadeOnly from to faulty first last (outputs.Taken kind)
-IsUnpunched from to faulty first last before after (faults.Unstored why) =
-    (after ≡ before) × IsMadeOnly from to faulty first last (outputs.File why)
-IsUnpunched from to faulty first last before after faults.TooLong = ⊥
-IsUnpunched from to faulty first last before after (faults.Text why) = ⊥
-IsUnpunched from to faulty first last before after faults.NoMemory = (after ≡ before) × LackMemory from first last
+IsUnpunched from to faulty first last before after stop =
+    (Stays first last × AreUnmade from faulty first last before after stop)
+    ⊎ AreMadeOnly from to faulty first last before after stop

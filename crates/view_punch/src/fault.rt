@@ -1,7 +1,7 @@
 //! Why a line of faults is not written.
 
 ghost use Rattle.std.specs.Prelude.{◌≡◌};
-ghost use Rattle.view_punch.specs.Punching.{of_line};
+ghost use Rattle.view_punch.specs.Making.{of_line};
 ghost use Rattle.view_punch.specs.declared.fault.LineFault.TheVariants as lines;
 
 use desk_memory::NoMemory;

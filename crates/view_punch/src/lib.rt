@@ -1,5 +1,5 @@
 //! What one sees of a stored feed before it is cast: its ribbon in a file, its faults, its sorts, or the places of a
-//! text.
+//! text. One ribbon has the galleys of several feeds too.
 //!
 //! What it reads must be there. It takes no name: a store is a rename, so it reads a whole feed.
 //!
@@ -19,9 +19,11 @@ mod cells;
 mod fault;
 mod finding;
 mod job_line;
+mod joining;
 pub mod laws;
 mod layout;
 mod listing;
+mod making;
 mod places;
 mod punching;
 mod reported;
@@ -33,7 +35,7 @@ mod sorts_sources;
 pub use finding::{Wanted, find_text};
 pub use layout::put_case;
 pub use listing::{missing_of, put_sorts};
-pub use punching::punch_feed;
+pub use punching::{Galleys, Stop, punch_feeds};
 pub use reporting::report_sorts;
 pub use sorts::{Sort, sorts_of};
 pub use sorts_laws::places_are_all;

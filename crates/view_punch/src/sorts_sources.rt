@@ -13,8 +13,8 @@ use script_answers::{Memory, case_in};
 use std::alloc::Allocator;
 use view_preview::SourcesFault;
 
-/// Opens a version of a stored feed, and reads a case. No name is taken, and no file changes. `NoMemory` comes only where the
-/// device did not fail in the call and the feed was opened.
+/// Opens a version of a stored feed, and reads a case. No name is taken, and no file changes. `NoMemory` comes only
+/// where the device did not fail in the call and the feed was opened.
 pub fn take_in<F: Files, A: Allocator + Copy>(
     memory: Memory<A>,
     files: &mut F,
