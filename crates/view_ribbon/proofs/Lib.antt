@@ -4,3 +4,4 @@ pub mod Pairs
 pub mod Rising
 pub mod Stretches
 pub mod Texts
+pub mod Ending

@@ -1,8 +1,10 @@
 pub mod Extent
+pub mod Faults
+pub mod Ends
+pub mod EndLaws
+pub mod Casting
 pub mod Lines
 pub mod Figures
-pub mod Faults
-pub mod Casting
 pub mod Reported
 pub mod Sources
 pub mod Reading

@@ -1,6 +1,6 @@
 -- The lines of a ribbon as text.
 use Rattle.std.specs.Prelude.{ℕ, ◌+◌, ℤ, pos, ◌-ℤ◌, int_lt, unsigned_abs, List, [], ◌∷◌, ◌++◌, length, codes}
-use Rattle.std.specs.Prelude.{if◌then◌else◌, Option}
+use Rattle.std.specs.Prelude.{if◌then◌else◌, ◌==◌, Option, take, drop}
 use Rattle.std.specs.Char.{encode_utf8}
 use Rattle.std.specs.Fmt.{decimal}
 use Rattle.desk_ops.specs.declared.op.Symbol.{Symbol}
@@ -9,6 +9,7 @@ use Rattle.desk_caster.specs.declared.CastMatrix.{CastMatrix}
 use Rattle.desk_caster.specs.Caster.{Line}
 use Rattle.desk_caster.specs.Lines.{meaning}
 use Rattle.view_proof.specs.Parts.{right, left, symbols_text, points_down, points_up}
+use Rattle.view_ribbon.specs.Casting.{Cast}
 use Rattle.view_ribbon.specs.Extent.{is_shown}
 use Rattle.view_ribbon.specs.declared.extent.Lines.{Lines}
 
@@ -72,6 +73,31 @@ lines_from pica longest shown before [] = []
 lines_from pica longest shown before (line ∷ lines) = shown_text pica longest shown (before + 1) line
     ++ lines_from pica longest shown (before + 1) lines
 
+-- ---- galleys
+
+-- the mark of the end of a galley with this number
+unfoldable pub mark_text : ℕ → List ℕ
+mark_text number = codes "  -- end of galley " ++ decimal number ++ codes " --\n"
+
+-- the number of the line that a mark behind so many goes with: that of the last, or of the first where there is none
+abbrev pub marked_line : ℕ → ℕ
+marked_line before = if before == 0 then 1 else before
+
+-- a mark behind so many lines, where that line is shown
+abbrev pub shown_mark : Option Lines → (before number : ℕ) → List ℕ
+shown_mark shown before number = if is_shown shown (marked_line before) then mark_text number else []
+
+-- Those of lines that are shown, where so many lines and galleys stand before them. Each galley that ends has so many
+-- of the lines, and a mark behind them.
+abbrev pub galleys_from : Pica → ℤ → Option Lines → (before done : ℕ) → List ℕ → List Line → List ℕ
+galleys_from pica longest shown before done [] lines = lines_from pica longest shown before lines
+galleys_from pica longest shown before done (size ∷ ended) lines =
+    let galley = take size lines in
+    let after = before + length galley in
+    lines_from pica longest shown before galley
+    ++ (shown_mark shown after (done + 1)
+    ++ galleys_from pica longest shown after (done + 1) ended (drop size lines))
+
 -- ---- the whole
 
 -- how many lines there are, of how many rows
@@ -87,7 +113,7 @@ head_text pica rows lines = counts_text (length lines) rows
 abbrev pub columns_text : List ℕ
 columns_text = codes "\n  line    c/f     points   short  text\n"
 
--- the lines that the rows of a ribbon cast, in reading order: the counts of all, and those that are shown
-abbrev pub ribbon_text : Pica → ℕ → Option Lines → List Line → List ℕ
-ribbon_text pica rows shown lines =
-    head_text pica rows lines ++ (columns_text ++ lines_from pica (longest_of lines) shown 0 lines)
+-- the lines that the rows of a ribbon cast, in reading order: the counts of all, and those that are shown, with marks
+abbrev pub ribbon_text : Pica → Option Lines → Cast → List ℕ
+ribbon_text pica shown cast = head_text pica cast.rows cast.lines
+    ++ (columns_text ++ galleys_from pica (longest_of cast.lines) shown 0 0 cast.ended cast.lines)

@@ -4,21 +4,20 @@ use Rattle.std.specs.Result.{is_ok}
 use Rattle.desk_case.specs.Case.{CaseValues}
 use Rattle.desk_units.specs.declared.Pica.{Pica}
 use Rattle.desk_wedge.specs.Wedge.{WedgeValues}
-use Rattle.desk_caster.specs.Caster.{Line}
 use Rattle.view_ribbon.specs.declared.extent.Extent.{Extent}
 use Rattle.view_ribbon.specs.declared.extent.Extent.TheVariants as extents
 use Rattle.view_ribbon.specs.Casting.{Cast, IsOutcome}
 use Rattle.view_ribbon.specs.Figures.{summary_text}
 use Rattle.view_ribbon.specs.Lines.{ribbon_text}
 
--- the lines that so many rows cast, or their figures
-abbrev pub extent_text : Pica → Extent → ℕ → List Line → List ℕ
-extent_text pica (extents.Lines shown) rows lines = ribbon_text pica rows shown lines
-extent_text pica (extents.Figures pitch) rows lines = summary_text pica pitch rows lines
+-- the lines that rows cast, or their figures
+abbrev pub extent_text : Pica → Extent → Cast → List ℕ
+extent_text pica (extents.Lines shown) cast = ribbon_text pica shown cast
+extent_text pica (extents.Figures pitch) cast = summary_text pica pitch cast.rows cast.lines
 
 -- these, or the line of the first fault
 abbrev pub outcome_text : Pica → Extent → Result Cast (List ℕ) → List ℕ
-outcome_text pica extent (Ok cast) = extent_text pica extent cast.rows cast.lines
+outcome_text pica extent (Ok cast) = extent_text pica extent cast
 outcome_text pica extent (Err line) = line
 
 -- this is reported of bytes, and they are a ribbon that is cast without a fault, or not

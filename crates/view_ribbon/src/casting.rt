@@ -6,6 +6,7 @@ ghost use Rattle.desk_caster.specs.declared.RibbonFault.TheVariants as ribbons;
 ghost use Rattle.view_ribbon.specs.Faults.{cast_fault_text, ribbon_fault_text};
 ghost use Rattle.view_ribbon.specs.Casting.{IsOutcome, outcome_of, rows_outcome};
 
+use crate::ends::ended_in;
 use crate::faults::{put_cast_fault, put_ribbon_fault};
 use desk_case::MatrixCase;
 use desk_caster::{CastFault, CastLine, RibbonFault, cast, read_ribbon};
@@ -14,10 +15,13 @@ use desk_signals::RibbonRow;
 use desk_wedge::Wedge;
 use std::alloc::Allocator;
 
-/// How many rows a ribbon has, and the lines that they cast, in reading order.
+/// How many rows a ribbon has, how many lines each galley has that ends in them, and the lines that they cast, in
+/// reading order.
 #[derive(Drop)]
 pub struct Casting<A: Allocator> {
     pub rows: usize,
+    /// Of each galley but the last.
+    pub ended: Vec<usize, A>,
     pub lines: Vec<CastLine<A>, A>,
 }
 
@@ -54,6 +58,7 @@ fn rows_cast<A: Allocator + Copy>(
     match cast(alloc, rows, case, wedge) {
         Ok(lines) => Ok(Ok(Casting {
             rows: rows.len(),
+            ended: ended_in(alloc, rows)?,
             lines,
         })),
         Err(fault) => Ok(Err(not_cast(alloc, fault)?)),

@@ -77,8 +77,8 @@ fn faults_of<A: Allocator + Copy>(
     one: &Result<Casting<A>, String<A>>,
     other: &Result<Casting<A>, String<A>>,
 ) -> Result<String<A>, NoMemory>
-    ensures { IfOk result (λ s. string_bytes s
-        ≡ fault_text (pair.now).one.now (outcome_of one.now) ++ fault_text (pair.now).other.now (outcome_of other.now)) }
+    ensures { IfOk result (λ s. string_bytes s ≡ fault_text (pair.now).one.now (outcome_of one.now)
+        ++ fault_text (pair.now).other.now (outcome_of other.now)) }
 {
     let mut out = String::new(alloc);
     put_fault(&mut out, pair.one, one)?;
@@ -124,11 +124,11 @@ fn compared_of<A: Allocator + Copy>(
 /// Writes in what two ribbons differ by what the caster makes of them, line by line, the first line of the one with the
 /// first of the other: how many lines each has and how many differ, behind the names of their files as `put_plain`
 /// writes them; then each line that differs as `read_job` has it in a reading of its ribbon, that of the first ribbon
-/// behind `- ` and that of the second behind `+ `. Two lines differ where the positions of the wedges do, or any matrix,
-/// by its cell or by S; so does a line that only one ribbon has. Where either ribbon is not cast, only the first fault of
-/// each that is not is written, behind its name. It is true exactly where both are cast and no line differs. Both
-/// ribbons are in memory at once. No name is taken, and no file changes. A refusal of the files, in the order of the
-/// pair, or of memory, comes before anything is written.
+/// behind `- ` and that of the second behind `+ `. Two lines differ where the positions of the wedges do, or any
+/// matrix, by its cell or by S; so does a line that only one ribbon has. Where either ribbon is not cast, only the
+/// first fault of each that is not is written, behind its name. It is true exactly where both are cast and no line
+/// differs. Both ribbons are in memory at once. No name is taken, and no file changes. A refusal of the files, in the
+/// order of the pair, or of memory, comes before anything is written.
 pub fn compare_ribbons<W: Write, F: Files, A: Allocator + Copy>(
     memory: Memory<A>,
     writer: &mut W,

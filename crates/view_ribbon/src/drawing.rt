@@ -58,8 +58,8 @@ fn of_output(why: OutputFault) -> ReadingFault
     }
 }
 
-/// Draws a ribbon, or the rows of these lines of it, by a case as `put_holes` does, and stores the picture under the name
-/// of a target. It is true exactly where it did so, and false where the file's bytes are no ribbon: then no file
+/// Draws a ribbon, or the rows of these lines of it, by a case as `put_holes` does, and stores the picture under the
+/// name of a target. It is true exactly where it did so, and false where the file's bytes are no ribbon: then no file
 /// changes, and `read_job` reports why. Rows that the caster would not cast are drawn too. The wedge is read, so that
 /// the refusals are those of `read_job`, and not used. No name is taken. Where a file that is no picture stands under
 /// the target, which is not forced, the fault is `Taken`, and no file changes. A target that is forced, and is the

@@ -4,8 +4,9 @@ ghost use Rattle.std.specs.Prelude.{◌≡◌, ◌≤◌, ◌++◌, length, OnOk
 ghost use Rattle.std.specs.Fmt.{decimal};
 ghost use Rattle.std.specs.List.{count_by};
 ghost use Rattle.view_proof.specs.Parts.{right, tenths_text};
-ghost use Rattle.view_ribbon.specs.Figures.{below_text, case_text, count_of, counts_text, first_tight, first_wide, is_counted};
-ghost use Rattle.view_ribbon.specs.Figures.{least_of, length_text, line_sum, pitch_text, row_text, summary_text};
+ghost use Rattle.view_ribbon.specs.Figures.{below_text, case_text, count_of, counts_text, first_tight, first_wide};
+ghost use Rattle.view_ribbon.specs.Figures.{is_counted, least_of, length_text, line_sum, pitch_text, row_text};
+ghost use Rattle.view_ribbon.specs.Figures.{summary_text};
 ghost use Rattle.view_ribbon.specs.Figures.{table_text, tenths_of, tightest_text, tightest_words, under_of};
 ghost use Rattle.view_ribbon.specs.Figures.{widest_text, widest_words};
 

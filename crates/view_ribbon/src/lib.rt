@@ -1,5 +1,5 @@
-//! What the caster makes of a ribbon from anywhere: its lines as text, or figures of them, or its first fault; its holes
-//! as a picture; and the lines in which two ribbons differ.
+//! What the caster makes of a ribbon from anywhere: its lines as text, with marks where galleys end, or figures of
+//! them, or its first fault; its holes as a picture; and the lines in which two ribbons differ.
 //!
 //! It reads the ribbon or the two, the case and the wedge, in this order, and takes no name. A file has at most
 //! 67,108,864 bytes.
@@ -23,6 +23,7 @@ mod channels;
 mod comparing;
 mod differences;
 mod drawing;
+mod ends;
 mod extent;
 mod fault;
 mod faults;
@@ -43,7 +44,6 @@ pub use extent::{Extent, Lines, Pitch};
 pub use fault::{ComparisonFault, ReadingFault, SourcesFault};
 pub use faults::{put_cast_fault, put_ribbon_fault};
 pub use figures::put_summary;
-pub use lines::put_ribbon;
 pub use picture::put_holes;
 pub use reading::read_job;
 pub use reported::reported_of;

@@ -1,11 +1,15 @@
 //! The lines of a ribbon as text.
 
-ghost use Rattle.std.specs.Prelude.{◌≡◌, ◌++◌, ◌<◌, ◌^◌, IfOk, OnOk, string_bytes, unsigned_abs, ◌-ℤ◌};
+ghost use Rattle.std.specs.Prelude.{◌≡◌, ◌+◌, ◌++◌, ◌<◌, ◌^◌, IfOk, OnOk, length, take, drop, string_bytes};
+ghost use Rattle.std.specs.Prelude.{unsigned_abs, ◌-ℤ◌};
 ghost use Rattle.desk_caster.specs.Lines.{meaning};
-ghost use Rattle.view_ribbon.specs.Lines.{columns_text, counts_text, figures_text, head_text, line_text, lines_from};
+ghost use Rattle.view_ribbon.specs.Casting.{cast_in};
+ghost use Rattle.view_ribbon.specs.Lines.{columns_text, counts_text, figures_text, galleys_from, head_text, line_text};
+ghost use Rattle.view_ribbon.specs.Lines.{lines_from, mark_text, marked_line, shown_mark, shown_text};
 ghost use Rattle.view_ribbon.specs.Lines.{longest_from, longest_of, matrices_text, meaning_text, pair_text};
 ghost use Rattle.view_ribbon.specs.Lines.{ribbon_text, short_text, width_text, widths_text};
 
+use crate::casting::Casting;
 use crate::extent::{Lines, is_shown};
 use desk_caster::{CastLine, CastMatrix};
 use desk_ops::Symbol;
@@ -182,25 +186,116 @@ pub fn put_line<A: Allocator + Copy>(
     out.push_str("\n")
 }
 
-/// Writes those of lines, numbered from 1, that are shown.
-fn put_lines<A: Allocator + Copy>(
-    alloc: A,
-    out: &mut String<A>,
+/// How lines are written: in points by this pica, each with how short of this width it is; and which are shown.
+#[derive(Clone, Copy)]
+struct Showing {
     pica: Pica,
     longest: Atoms,
     shown: Option<Lines>,
+}
+
+/// Writes a line with this number, where it is shown.
+fn put_shown<A: Allocator + Copy>(
+    alloc: A,
+    out: &mut String<A>,
+    showing: &Showing,
+    number: usize,
+    line: &CastLine<A>,
+) -> Result<(), AllocError>
+    ensures { OnOk result (string_bytes out.new ≡ string_bytes out.old
+        ++ shown_text (showing.now).pica (showing.now).longest (showing.now).shown number line.now) }
+{
+    if is_shown(showing.shown, number as u64) {
+        put_line(alloc, out, showing.pica, showing.longest, number, line)
+    } else {
+        Ok(())
+    }
+}
+
+/// Writes those of lines that are shown, where so many stand before them.
+fn put_lines<A: Allocator + Copy>(
+    alloc: A,
+    out: &mut String<A>,
+    showing: &Showing,
+    first: usize,
     lines: &[CastLine<A>],
 ) -> Result<(), AllocError>
-    ensures { OnOk result (string_bytes out.new ≡ string_bytes out.old ++ lines_from pica longest shown 0 lines.now) }
+    requires { first + length lines.now < 2 ^ 64 }
+    ensures { OnOk result (string_bytes out.new ≡ string_bytes out.old
+        ++ lines_from (showing.now).pica (showing.now).longest (showing.now).shown first lines.now) }
 {
-    let mut before = 0;
+    let mut before = first;
     for line in lines {
-        if is_shown(shown, before as u64 + 1) {
-            put_line(alloc, out, pica, longest, before + 1, line)?;
-        }
+        put_shown(alloc, out, showing, before + 1, line)?;
         before += 1;
     }
     Ok(())
+}
+
+/// Writes the mark of the end of a galley with this number.
+#[tactic(auto, unfolding(crate::specs::Lines::mark_text))]
+fn put_mark<A: Allocator + Copy>(out: &mut String<A>, number: usize) -> Result<(), AllocError>
+    ensures { OnOk result (string_bytes out.new ≡ string_bytes out.old ++ mark_text number) }
+{
+    write!(out, "  -- end of galley {number} --\n")
+}
+
+/// The number of the line that a mark behind so many goes with: that of the last, or of the first where there is none.
+fn marked_line(before: usize) -> u64
+    ensures { result ≡ marked_line before }
+{
+    if before == 0 { 1 } else { before as u64 }
+}
+
+/// Writes the mark of a galley behind so many lines, where that line is shown.
+fn put_shown_mark<A: Allocator + Copy>(
+    out: &mut String<A>,
+    shown: Option<Lines>,
+    before: usize,
+    number: usize,
+) -> Result<(), AllocError>
+    ensures { OnOk result (string_bytes out.new ≡ string_bytes out.old ++ shown_mark shown before number) }
+{
+    if is_shown(shown, marked_line(before)) {
+        put_mark(out, number)
+    } else {
+        Ok(())
+    }
+}
+
+/// The first lines, so many of them where there are as many, and the others.
+fn cut<A: Allocator>(lines: &[CastLine<A>], size: usize) -> (&[CastLine<A>], &[CastLine<A>])
+    ensures front { result.0.now ≡ take size lines.now }
+    ensures back { result.1.now ≡ drop size lines.now }
+{
+    if size <= lines.len() {
+        lines.split_at(size)
+    } else {
+        (lines, &[])
+    }
+}
+
+/// Writes those of lines that are shown, with a mark behind each galley that ends. Such a galley has so many lines.
+fn put_galleys<A: Allocator + Copy>(
+    alloc: A,
+    out: &mut String<A>,
+    showing: &Showing,
+    ended: &[usize],
+    lines: &[CastLine<A>],
+) -> Result<(), AllocError>
+    ensures { OnOk result (string_bytes out.new ≡ string_bytes out.old
+        ++ galleys_from (showing.now).pica (showing.now).longest (showing.now).shown 0 0 ended.now lines.now) }
+{
+    let mut rest = lines;
+    let mut before = 0;
+    for (done, size) in ended.iter().enumerate() {
+        let (galley, others) = cut(rest, *size);
+        put_lines(alloc, out, showing, before, galley)?;
+        before += galley.len();
+        put_shown_mark(out, showing.shown, before, done + 1)?;
+        rest = others;
+    }
+    put_lines(alloc, out, showing, before, rest)
 }
 
 /// Writes how many lines there are, of how many rows.
@@ -236,21 +331,28 @@ fn columns() -> &'static str
     "\n  line    c/f     points   short  text\n"
 }
 
-/// Writes the lines that so many rows cast, in reading order: how many there are and how long the longest is; then each
-/// that is shown, with its number from 1, the positions of its wedges, its width and how short of the longest of all it
-/// is, both in points to a tenth, the width rounded down and what it is short rounded up; and its text, where a space
-/// stands for a matrix with S, and a middle dot for one that means nothing, as a fill.
+/// Writes the lines that rows cast, in reading order: how many there are and how long the longest is; then each that is
+/// shown, with its number from 1, the positions of its wedges, its width and how short of the longest of all it is,
+/// both in points to a tenth, the width rounded down and what it is short rounded up; and its text, where a space
+/// stands for a matrix with S, and a middle dot for one that means nothing, as a fill. Behind each galley but the last
+/// stands a mark with its number from 1, where the line before it is shown, or, with no line before it, where the first
+/// is.
 pub fn put_ribbon<A: Allocator + Copy>(
     alloc: A,
     out: &mut String<A>,
     pica: Pica,
-    rows: usize,
     shown: Option<Lines>,
-    lines: &[CastLine<A>],
+    cast: &Casting<A>,
 ) -> Result<(), AllocError>
-    ensures { OnOk result (string_bytes out.new ≡ string_bytes out.old ++ ribbon_text pica rows shown lines.now) }
+    ensures { OnOk result (string_bytes out.new ≡ string_bytes out.old ++ ribbon_text pica shown (cast_in cast.now)) }
 {
-    put_head(out, pica, rows, lines)?;
+    put_head(out, pica, cast.rows, &cast.lines)?;
     out.push_str(columns())?;
-    put_lines(alloc, out, pica, longest_of(lines), shown, lines)
+    let longest = longest_of(&cast.lines);
+    let showing = Showing {
+        pica,
+        longest,
+        shown,
+    };
+    put_galleys(alloc, out, &showing, &cast.ended, &cast.lines)
 }

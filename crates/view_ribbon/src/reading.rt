@@ -15,10 +15,10 @@ use std::alloc::Allocator;
 use std::io::Write;
 
 /// Writes what the caster makes of a ribbon by a case and a wedge: its lines as `put_ribbon` writes them, or their
-/// figures as `put_summary` does, or on one line the first fault, of the bytes or of the rows, as `put_ribbon_fault` and
-/// `put_cast_fault` write it. It is true exactly where the ribbon was cast whole, and false where a fault was written.
-/// The ribbon need not come from this program: any bytes have lines or a first fault. No name is taken, and no file
-/// changes. A refusal of the ribbon's file, the case or the wedge, or of memory, comes before anything is written.
+/// figures as `put_summary` does, or on one line the first fault, of the bytes or of the rows, as `put_ribbon_fault`
+/// and `put_cast_fault` write it. It is true exactly where the ribbon was cast whole, and false where a fault was
+/// written. The ribbon need not come from this program: any bytes have lines or a first fault. No name is taken, and no
+/// file changes. A refusal of the ribbon's file, the case or the wedge, or of memory, comes before anything is written.
 pub fn read_job<W: Write, F: Files, A: Allocator + Copy>(
     memory: Memory<A>,
     writer: &mut W,

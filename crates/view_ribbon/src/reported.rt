@@ -1,6 +1,7 @@
 //! What is reported of the bytes of a ribbon.
 
 ghost use Rattle.std.specs.Prelude.{◌≡◌, ◌++◌, IfOk, OnOk, string_bytes};
+ghost use Rattle.view_ribbon.specs.Casting.{cast_in};
 ghost use Rattle.view_ribbon.specs.Reported.{IsReported, extent_text};
 
 use crate::casting::{Casting, cast_of};
@@ -8,7 +9,6 @@ use crate::extent::Extent;
 use crate::figures::put_summary;
 use crate::lines::put_ribbon;
 use desk_case::MatrixCase;
-use desk_caster::CastLine;
 use desk_memory::NoMemory;
 use desk_units::Pica;
 use desk_wedge::Wedge;
@@ -20,15 +20,14 @@ fn put_extent<A: Allocator + Copy>(
     out: &mut String<A>,
     pica: Pica,
     extent: Extent,
-    rows: usize,
-    lines: &[CastLine<A>],
+    cast: &Casting<A>,
 ) -> Result<(), AllocError>
     ensures { OnOk result
-        (string_bytes out.new ≡ string_bytes out.old ++ extent_text pica extent rows lines.now) }
+        (string_bytes out.new ≡ string_bytes out.old ++ extent_text pica extent (cast_in cast.now)) }
 {
     match extent {
-        Extent::Lines(shown) => put_ribbon(alloc, out, pica, rows, shown, lines),
-        Extent::Figures(pitch) => put_summary(out, pica, pitch, rows, lines),
+        Extent::Lines(shown) => put_ribbon(alloc, out, pica, shown, cast),
+        Extent::Figures(pitch) => put_summary(out, pica, pitch, cast.rows, &cast.lines),
     }
 }
 
@@ -39,11 +38,10 @@ fn extent_text<A: Allocator + Copy>(
     extent: Extent,
     cast: &Casting<A>,
 ) -> Result<String<A>, NoMemory>
-    ensures { IfOk result
-        (λ s. string_bytes s ≡ extent_text pica extent (cast.now).rows ((cast.now).lines).items) }
+    ensures { IfOk result (λ s. string_bytes s ≡ extent_text pica extent (cast_in cast.now)) }
 {
     let mut out = String::new(alloc);
-    put_extent(alloc, &mut out, pica, extent, cast.rows, &cast.lines)?;
+    put_extent(alloc, &mut out, pica, extent, cast)?;
     Ok(out)
 }
 

@@ -47,8 +47,8 @@ fn front(last: u64, rows: &[RibbonRow]) -> usize
 }
 
 /// The rows that are drawn, all or those of lines, behind the place of their first one. A row is of a line by the
-/// number of Coarse rows before it: a FineOut row is of that number, and any other of the next. So the rows of lines are
-/// one stretch, from the first row that is of the first line or of one behind it, up to the first that is of a line
+/// number of Coarse rows before it: a FineOut row is of that number, and any other of the next. So the rows of lines
+/// are one stretch, from the first row that is of the first line or of one behind it, up to the first that is of a line
 /// behind the last.
 pub fn drawn_of<'a>(lines: Option<Lines>, rows: &'a [RibbonRow]) -> (usize, &'a [RibbonRow])
     ensures first { result.0 ≡ first_drawn lines rows.now }
