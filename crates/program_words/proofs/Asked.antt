@@ -1,6 +1,6 @@
 -- What matches hold, by what their getters answered.
 use Rattle.std.proofs.Common.{◌≡◌, ◌<◌, ℕ, List, [], Option, Some, None, sym, subst, ap, ap₂, ◌∙◌, codes, refl, arith}
-use Rattle.std.specs.Prelude.{◌≤◌, ◌||◌, ◌&&◌, Bool, true, false, Ok, Err, Result, if◌then◌else◌, is_some, option_map}
+use Rattle.std.specs.Prelude.{◌≤◌, ◌||◌, ◌&&◌, Bool, true, false, Ok, Err, Result, if◌then◌else◌, is_some, length, option_map}
 use Rattle.std.specs.Str.{bytes_eq}
 use Rattle.std.specs.Str.Parse.{ParsesBool, ParsesUnsigned, digits_value, without_leading_plus}
 use Rattle.std.specs.Borrow.{Bor}
@@ -8,14 +8,14 @@ use Rattle.clap.specs.Matches.{ReadsOne}
 use Rattle.clap.specs.Words.{Row, Text, all_of, fault_of, first_of, first_value, one_of, rows_of, subcommand_of}
 use Rattle.clap.specs.declared.parser.matches.Found.{Found}
 use Rattle.clap.proofs.WalkLemmas.{first_value-rows}
-use Rattle.program_words.specs.Choices.{IsChosen, IsForm, IsShown, IsShownBy, IsSource, IsWritten}
+use Rattle.program_words.specs.Choices.{IsChosen, IsForm, IsPaged, IsShown, IsShownBy, IsSource, IsWritten}
 use Rattle.program_words.specs.declared.choices.Extent.{Extent}
 use Rattle.program_words.specs.declared.choices.Form.{Form}
 use Rattle.program_words.specs.declared.choices.Source.{Source}
+use Rattle.program_words.specs.declared.wishes.Drawings.{Drawings}
 use Rattle.program_words.specs.declared.wishes.Galley.{Galley}
 use Rattle.program_words.specs.declared.wishes.Ribbon.{Ribbon}
-use Rattle.program_words.specs.Words.{AreCopied, AreFormed, AreShown, AsksGalley, Chooses, ChoosesMetal, Copies, Forms, HasFlag, HasNumber, HasSite, IsAsked, IsLeftOut, IsReported, IsUntil, IsWished, Names, NamesDesk, NamesFeed, NamesRibbon, NamesSources, Reports, Shows, copydesk, name_of, subcommand_asked, texts_of}
-use Rattle.program_words.specs.declared.wishes.Sources.{Sources}
+use Rattle.program_words.specs.Words.{AreCopied, AreFormed, AreShown, AsksGalley, Chooses, ChoosesMetal, Copies, Draws, Forms, HasFlag, HasNumber, HasSite, IsAsked, IsLeftOut, IsReported, IsUntil, IsWished, Names, NamesDesk, NamesFeed, NamesRibbon, Reports, Shows, copydesk, name_of, subcommand_asked, texts_of}
 use Rattle.program_words.specs.declared.wishes.Subcommand.{Subcommand}
 use Rattle.program_words.specs.declared.wishes.Subcommand.TheVariants as subcommands
 use Rattle.program_words.specs.declared.wishes.Wish.{Wish}
@@ -221,6 +221,12 @@ copied rows until plain feed text o counter held one two is =
 pub formed : (rows : List Row) (faults : Bool) (format : Option Text) (o : Option Form) → HasFlag (codes "faults") rows faults → first_of (codes "format") rows ≡ format → IsWritten format faults o → AreFormed rows o
 formed rows faults format o held one is = formed_by rows faults o held (subst (λ t. IsWritten t faults o) (sym one) is)
 
+pub paged : (rows : List Row) (page picture document : Option Text) (o : Option (Option ℕ)) → first_of (codes "page") rows ≡ page → first_of (codes "svg") rows ≡ picture → first_of (codes "html") rows ≡ document
+    → IsPaged page picture document o → IsPaged (first_of (codes "page") rows) (first_of (codes "svg") rows) (first_of (codes "html") rows) o
+paged rows page picture document o one two three is =
+    subst (λ t. IsPaged t (first_of (codes "svg") rows) (first_of (codes "html") rows) o) (sym one)
+    (subst (λ t. IsPaged page t (first_of (codes "html") rows) o) (sym two) (subst (λ t. IsPaged page picture t o) (sym three) is))
+
 -- ---- the name that an argument gives
 
 pub named : (argument : Text) (f : Found) (r : Option (Bor Text)) (name : Bor Text) → option_map (λ s. s.now) r ≡ first_value f argument → r ≡ Some name → Names argument (rows_of f) name.now
@@ -251,8 +257,8 @@ Lacks rows subcommands.Export = (feed : Text) → NamesFeed rows feed → ⊥
 Lacks rows subcommands.Import = (feed : Text) (site : ℕ) → NamesDesk rows feed site → ⊥
 Lacks rows subcommands.Replace = (feed : Text) (site : ℕ) (old new : Text) (at : Option ℕ) (all : Bool) → NamesDesk rows feed site → Names (codes "old") rows old → Names (codes "new") rows new → HasNumber (codes "at") rows at → HasFlag (codes "all") rows all → (is_some at && all) ≡ false → ⊥
 Lacks rows subcommands.Check = all_of (codes "file") rows ≡ None
-Lacks rows subcommands.Proof = (galley : Galley) → AsksGalley rows galley → ⊥
-Lacks rows subcommands.Punch = (from : Sources) (target : Text) → NamesSources rows from → Names (codes "output") rows target → ⊥
+Lacks rows subcommands.Proof = (galley : Galley) (drawings : Drawings) → AsksGalley rows galley → Draws rows drawings → ⊥
+Lacks rows subcommands.Punch = (feeds : List (Bor Text)) (case wedge target : Text) → all_of (codes "feed") rows ≡ Some (texts_of feeds) → 1 ≤ length feeds → Names (codes "case") rows case → Names (codes "wedge") rows wedge → Names (codes "output") rows target → ⊥
 Lacks rows subcommands.Read = (from : Ribbon) (extent : Extent) → NamesRibbon rows from → Shows rows extent → ⊥
 Lacks rows subcommands.Sorts = (feed case : Text) → NamesFeed rows feed → Names (codes "case") rows case → ⊥
 Lacks rows subcommands.Renumber = (feed : Text) (site : ℕ) (other : Text) → NamesDesk rows feed site → Names (codes "other") rows other → ⊥
@@ -274,8 +280,8 @@ none_reported rows (wishes.Replace feed site older old new plain at all) lacks r
 none_reported rows (wishes.Check files) lacks reports =
     let bad = sym lacks ∙ reports in
     cc
-none_reported rows (wishes.Proof galley picture force sets) lacks reports = lacks galley reports.0
-none_reported rows (wishes.Punch from target force faulty) lacks reports = lacks from target.now reports.0 reports.1
+none_reported rows (wishes.Proof galley drawings sets) lacks reports = lacks galley drawings reports.0 reports.1
+none_reported rows (wishes.Punch feeds case wedge target force faulty) lacks reports = lacks feeds.items case.now wedge.now target.now reports.0 reports.1 reports.2 reports.3 reports.4
 none_reported rows (wishes.Read from extent picture force) lacks reports = lacks from extent reports.0 reports.1
 none_reported rows (wishes.Sorts feed until case layout) lacks reports = lacks feed.now case.now reports.0 reports.2
 none_reported rows (wishes.Renumber feed other site) lacks reports = lacks feed.now site other.now reports.0 reports.1

@@ -1,5 +1,6 @@
--- What options choose together: the lines or the figures of a ribbon, a feed or a text, and how faults are written.
-use Rattle.std.specs.Prelude.{◌≡◌, ◌≤◌, ◌<◌, ◌==◌, ℕ, Bool, true, false, ◌∷◌, Option, Some, None, codes, length}
+-- What options choose together: the lines or the figures of a ribbon, a feed or a text, how faults are written, and how
+-- high pages are.
+use Rattle.std.specs.Prelude.{◌≡◌, ◌⊎◌, ◌≤◌, ◌<◌, ◌==◌, ℕ, Bool, true, false, ◌∷◌, Option, Some, None, codes, length}
 use Rattle.std.specs.Prelude.{if◌then◌else◌}
 use Rattle.std.specs.List.{after_first, before_first, position_or_len}
 use Rattle.std.specs.Str.Parse.{IsNumeral, digits_value, without_leading_plus}
@@ -79,6 +80,29 @@ IsForm None false form = form ≡ forms.Whole
 IsForm None true form = form ≡ forms.Faults
 IsForm (Some text) faults form = (text ≡ codes "gcc") × (form ≡ forms.Located)
 
+-- ---- how high a page is
+
+-- a text as `600`: points from 200 to 14400
+abbrev pub IsPoints : Text → ℕ → Type 0
+IsPoints text height = IsNumber text height × (200 ≤ height) × (height ≤ 14400)
+
+-- in points: a size of paper, or a number
+abbrev pub IsHeight : Text → ℕ → Type 0
+IsHeight text height = ((text ≡ codes "a4") × (height ≡ 842)) ⊎ ((text ≡ codes "letter") × (height ≡ 792))
+    ⊎ IsPoints text height
+
+-- the height that a text gives
+abbrev pub IsPage : Text → Option ℕ → Type 0
+IsPage text (Some height) = IsHeight text height
+IsPage text None = ⊥
+
+-- by the text of `--page` and the names of a picture and of a document: a text has one of the two names beside it
+abbrev pub IsPageBy : (page picture document : Option Text) → Option ℕ → Type 0
+IsPageBy None picture document height = height ≡ None
+IsPageBy (Some text) (Some picture) document height = IsPage text height
+IsPageBy (Some text) None (Some document) height = IsPage text height
+IsPageBy (Some text) None None height = ⊥
+
 -- ---- what is made of the options
 
 -- the number that a text is, or that it is none
@@ -120,3 +144,19 @@ IsChosen feed text until plain None = (source : Source) → IsSource feed text u
 abbrev pub IsWritten : Option Text → Bool → Option Form → Type 0
 IsWritten format faults (Some form) = IsForm format faults form
 IsWritten format faults None = (form : Form) → IsForm format faults form → ⊥
+
+abbrev pub ArePoints : Text → Option ℕ → Type 0
+ArePoints text (Some height) = IsPoints text height
+ArePoints text None = (height : ℕ) → IsPoints text height → ⊥
+
+abbrev pub IsHeightIn : Text → Option ℕ → Type 0
+IsHeightIn text (Some height) = IsHeight text height
+IsHeightIn text None = (height : ℕ) → IsHeight text height → ⊥
+
+abbrev pub IsPageIn : Text → Option (Option ℕ) → Type 0
+IsPageIn text (Some height) = IsPage text height
+IsPageIn text None = (height : Option ℕ) → IsPage text height → ⊥
+
+abbrev pub IsPaged : (page picture document : Option Text) → Option (Option ℕ) → Type 0
+IsPaged page picture document (Some height) = IsPageBy page picture document height
+IsPaged page picture document None = (height : Option ℕ) → IsPageBy page picture document height → ⊥

@@ -111,10 +111,35 @@ a_punch : punched (subcommand_of copydesk (codes "punch" ∷ codes "a.feed" ∷ 
 unfolding clap_on_literals punched
 a_punch = refl
 
+several : Option (Text × List Row) → Option (Text × (Option (List Text) × (Option Text × Option Text)))
+several = option_map
+    (λ p. (p.0, (all_of (codes "feed") p.1, (first_of (codes "case") p.1, first_of (codes "output") p.1))))
+
+a_punch_of_two_feeds : several (subcommand_of copydesk (codes "punch" ∷ codes "a.feed" ∷ codes "b.feed"
+    ∷ codes "--case" ∷ codes "c.toml" ∷ codes "--wedge" ∷ codes "w.toml" ∷ codes "-o" ∷ codes "a.rib" ∷ []))
+    ≡ Some (codes "punch", (Some (codes "a.feed" ∷ codes "b.feed" ∷ []), (Some (codes "c.toml"), Some (codes "a.rib"))))
+unfolding clap_on_literals several
+a_punch_of_two_feeds = refl
+
+a_punch_without_a_feed : fault_of copydesk (codes "punch" ∷ codes "--case" ∷ codes "c.toml" ∷ codes "--wedge"
+    ∷ codes "w.toml" ∷ codes "-o" ∷ codes "a.rib" ∷ []) ≡ kind.MissingRequiredArgument ∷ []
+unfolding clap_on_literals
+a_punch_without_a_feed = refl
+
 a_punch_without_a_target : fault_of copydesk (codes "punch" ∷ codes "a.feed" ∷ codes "--case" ∷ codes "c.toml"
     ∷ codes "--wedge" ∷ codes "w.toml" ∷ []) ≡ kind.MissingRequiredArgument ∷ []
 unfolding clap_on_literals
 a_punch_without_a_target = refl
+
+documented : Option (Text × List Row) → Option (Text × (Option Text × (Option Text × Option Text)))
+documented = option_map
+    (λ p. (p.0, (first_of (codes "svg") p.1, (first_of (codes "html") p.1, first_of (codes "page") p.1))))
+
+a_document : documented (subcommand_of copydesk (codes "proof" ∷ codes "a.feed" ∷ codes "--case" ∷ codes "c.toml"
+    ∷ codes "--wedge" ∷ codes "w.toml" ∷ codes "--html" ∷ codes "a.html" ∷ codes "--page" ∷ codes "letter" ∷ []))
+    ≡ Some (codes "proof", (None, (Some (codes "a.html"), Some (codes "letter"))))
+unfolding clap_on_literals documented
+a_document = refl
 
 replaced : Option (Text × List Row) → Option (Text × (Option Text × (Option Text × Option Text)))
 replaced = option_map

@@ -1,6 +1,6 @@
 -- What the words of the command line ask for, as `clap` reads them.
 use Rattle.std.specs.Prelude.{◌≡◌, ◌≢◌, ◌≤◌, ◌<◌, ◌⊎◌, ℕ, Bool, List, [], Option, Some, None, Vec, true, false, map}
-use Rattle.std.specs.Prelude.{◌↔◌, ◌||◌, ◌&&◌, is_some, option_map, pos, codes}
+use Rattle.std.specs.Prelude.{◌↔◌, ◌||◌, ◌&&◌, is_some, length, option_map, pos, codes}
 use Rattle.std.specs.Borrow.{Bor}
 use Rattle.std.specs.declared.alloc.Global.{Global}
 use Rattle.clap.specs.Words.{App, IsAmong, Row, Rule, Text, all_of, fault_of, first_of, new_app, new_rule, one_of}
@@ -9,14 +9,14 @@ use Rattle.clap.specs.declared.builder.action.ArgAction.TheVariants.{Append, Set
 use Rattle.clap.specs.declared.builder.value_parser.ValueParser.TheVariants as parsers
 use Rattle.clap.specs.declared.error.kind.ErrorKind.{ErrorKind}
 use Rattle.clap.specs.declared.error.kind.ErrorKind.TheVariants as kind
-use Rattle.program_words.specs.Choices.{IsForm, IsNumber, IsShownBy, IsSource}
+use Rattle.program_words.specs.Choices.{IsForm, IsNumber, IsPageBy, IsShownBy, IsSource}
 use Rattle.program_words.specs.declared.choices.Extent.{Extent}
 use Rattle.program_words.specs.declared.choices.Form.{Form}
 use Rattle.program_words.specs.declared.choices.Source.{Source}
+use Rattle.program_words.specs.declared.wishes.Drawings.{Drawings}
 use Rattle.program_words.specs.declared.wishes.Galley.{Galley}
 use Rattle.program_words.specs.declared.wishes.Manner.{Manner}
 use Rattle.program_words.specs.declared.wishes.Ribbon.{Ribbon}
-use Rattle.program_words.specs.declared.wishes.Sources.{Sources}
 use Rattle.program_words.specs.declared.wishes.Subcommand.{Subcommand}
 use Rattle.program_words.specs.declared.wishes.Subcommand.TheVariants as subcommands
 use Rattle.program_words.specs.declared.wishes.Wish.{Wish}
@@ -118,11 +118,6 @@ find_app = with_rule (with_rule (with_rule (with_rule (with_rule (new_app (codes
 abbrev pub import_app : App
 import_app = with_rule (with_rule (on_site (codes "import")) (flag_rule (codes "plain"))) (flag_rule (codes "all"))
 
--- a feed, a case and a wedge
-abbrev pub sources_app : Text → App
-sources_app name = with_rule (with_rule (with_rule (new_app name) feed_rule) (file_rule (codes "case")))
-    (file_rule (codes "wedge"))
-
 -- what stands under the name of an output is replaced, whatever it is
 abbrev pub force_rule : Rule
 force_rule = flag_rule (codes "force")
@@ -130,6 +125,11 @@ force_rule = flag_rule (codes "force")
 -- with the name of a file for a picture
 abbrev pub with_picture : App → App
 with_picture app = with_rule (with_rule app (choice_rule (codes "svg"))) force_rule
+
+-- with the names of files for a picture and a document, and how high pages are
+abbrev pub with_drawings : App → App
+with_drawings app = with_rule (with_rule (with_rule (with_rule app (choice_rule (codes "svg")))
+    (choice_rule (codes "html"))) (choice_rule (codes "page"))) force_rule
 
 -- a feed, which may be left out, a case and a wedge; the name of a text, and whether all of that is Roman
 abbrev pub text_app : App
@@ -142,11 +142,15 @@ form_app = with_rule (with_rule (with_rule text_app (flag_rule (codes "faults"))
     (flag_rule (codes "warn"))
 
 abbrev pub proof_app : App
-proof_app = with_rule (with_rule (with_picture form_app) (each_rule (codes "set"))) at_rule
+proof_app = with_rule (with_rule (with_drawings form_app) (each_rule (codes "set"))) at_rule
+
+-- feeds, a case and a wedge
+abbrev pub feeds_app : App
+feeds_app = with_rule (with_rule (with_rule (new_app (codes "punch")) (names_rule (codes "feed")))
+    (file_rule (codes "case"))) (file_rule (codes "wedge"))
 
 abbrev pub punch_app : App
-punch_app = with_rule (with_rule (with_rule (sources_app (codes "punch")) target_rule) force_rule)
-    (flag_rule (codes "faulty"))
+punch_app = with_rule (with_rule (with_rule feeds_app target_rule) force_rule) (flag_rule (codes "faulty"))
 
 -- a ribbon, a case and a wedge
 abbrev pub ribbon_app : App
@@ -250,11 +254,6 @@ Names argument rows name = first_of argument rows ≡ Some name
 abbrev pub NamesFeed : List Row → Text → Type 0
 NamesFeed = Names (codes "feed")
 
--- the names of a feed, a case and a wedge
-abbrev pub NamesSources : List Row → Sources → Type 0
-NamesSources rows from = NamesFeed rows from.feed.now × Names (codes "case") rows from.case.now
-    × Names (codes "wedge") rows from.wedge.now
-
 -- both
 abbrev pub NamesDesk : List Row → Text → ℕ → Type 0
 NamesDesk rows feed site = NamesFeed rows feed × HasSite rows site
@@ -318,6 +317,11 @@ NamesRoom rows feed site older = NamesDesk rows feed site × HasFlag (codes "old
 abbrev pub Pictures : List Row → Option (Bor Text) → Bool → Type 0
 Pictures rows picture force = Chooses (codes "svg") rows picture × HasFlag (codes "force") rows force
 
+-- the files that a galley is drawn in, and how high pages are
+abbrev pub Draws : List Row → Drawings → Type 0
+Draws rows drawings = Pictures rows drawings.picture drawings.force × Chooses (codes "html") rows drawings.document
+    × IsPageBy (first_of (codes "page") rows) (first_of (codes "svg") rows) (first_of (codes "html") rows) drawings.page
+
 -- how commands are carried out
 abbrev pub HasManner : List Row → Manner → Type 0
 HasManner rows manner = HasFlag (codes "strict") rows manner.strict × HasFlag (codes "number") rows manner.number
@@ -355,8 +359,8 @@ subcommand_asked (wishes.Export feed until) = subcommands.Export
 subcommand_asked (wishes.Import feed site older plain all) = subcommands.Import
 subcommand_asked (wishes.Replace feed site older old new plain at all) = subcommands.Replace
 subcommand_asked (wishes.Check files) = subcommands.Check
-subcommand_asked (wishes.Proof galley picture force sets) = subcommands.Proof
-subcommand_asked (wishes.Punch from target force faulty) = subcommands.Punch
+subcommand_asked (wishes.Proof galley drawings sets) = subcommands.Proof
+subcommand_asked (wishes.Punch feeds case wedge target force faulty) = subcommands.Punch
 subcommand_asked (wishes.Read from extent picture force) = subcommands.Read
 subcommand_asked (wishes.Sorts feed until case layout) = subcommands.Sorts
 subcommand_asked (wishes.Renumber feed other site) = subcommands.Renumber
@@ -385,11 +389,12 @@ Reports rows (wishes.Replace feed site older old new plain at all) =
     × HasFlag (codes "plain") rows plain × HasNumber (codes "at") rows at × HasFlag (codes "all") rows all
     × ((is_some at && all) ≡ false)
 Reports rows (wishes.Check files) = all_of (codes "file") rows ≡ Some (texts_of files.items)
-Reports rows (wishes.Proof galley picture force sets) = AsksGalley rows galley × Pictures rows picture force
+Reports rows (wishes.Proof galley drawings sets) = AsksGalley rows galley × Draws rows drawings
     × (texts_of sets.items ≡ all_given (all_of (codes "set") rows))
-Reports rows (wishes.Punch from target force faulty) =
-    NamesSources rows from × Names (codes "output") rows target.now × HasFlag (codes "force") rows force
-    × HasFlag (codes "faulty") rows faulty
+Reports rows (wishes.Punch feeds case wedge target force faulty) =
+    (all_of (codes "feed") rows ≡ Some (texts_of feeds.items)) × (1 ≤ length feeds.items)
+    × Names (codes "case") rows case.now × Names (codes "wedge") rows wedge.now
+    × Names (codes "output") rows target.now × HasFlag (codes "force") rows force × HasFlag (codes "faulty") rows faulty
 Reports rows (wishes.Read from extent picture force) = NamesRibbon rows from × Shows rows extent
     × Pictures rows picture force
 Reports rows (wishes.Sorts feed until case layout) = NamesFeed rows feed.now × IsUntil rows until
@@ -436,12 +441,8 @@ abbrev pub AreMetal : List Row → Option (Option (Bor Text × Bor Text)) → Ty
 AreMetal rows (Some metal) = ChoosesMetal rows metal
 AreMetal rows None = (metal : _) → ChoosesMetal rows metal → ⊥
 
--- the names of a feed, a case and a wedge, or that they are not all there
-abbrev pub AreSources : List Row → Option Sources → Type 0
-AreSources rows (Some from) = NamesSources rows from
-AreSources rows None = (from : Sources) → NamesSources rows from → ⊥
-
--- what is written of a ribbon, what a galley is of, how it is written, the galley, or that none is asked for
+-- what is written of a ribbon, what a galley is of, how it is written, the galley, the files that it is drawn in, or
+-- that none is asked for
 abbrev pub AreShown : List Row → Option Extent → Type 0
 AreShown rows (Some extent) = Shows rows extent
 AreShown rows None = (extent : Extent) → Shows rows extent → ⊥
@@ -458,6 +459,10 @@ abbrev pub AreGalley : List Row → Option Galley → Type 0
 AreGalley rows (Some galley) = AsksGalley rows galley
 AreGalley rows None = (galley : Galley) → AsksGalley rows galley → ⊥
 
+abbrev pub AreDrawn : List Row → Option Drawings → Type 0
+AreDrawn rows (Some drawings) = Draws rows drawings
+AreDrawn rows None = (drawings : Drawings) → Draws rows drawings → ⊥
+
 -- the names of a ribbon, a case and a wedge, or that they are not all there
 abbrev pub AreRibbon : List Row → Option Ribbon → Type 0
 AreRibbon rows (Some from) = NamesRibbon rows from
@@ -468,7 +473,7 @@ abbrev pub IsReported : List Row → Subcommand → Option Wish → Type 0
 IsReported rows subcommand (Some wish) = (subcommand_asked wish ≡ subcommand) × Reports rows wish
 IsReported rows subcommand None = (wish : Wish) → subcommand_asked wish ≡ subcommand → Reports rows wish → ⊥
 
--- the matches of a subcommand hold the list that it may be given: other feeds, files, or settings to be tried
+-- the matches of a subcommand hold the list that it may be given: feeds, files, or settings to be tried
 abbrev pub HasList : List Row → Subcommand → Type 0
 HasList rows subcommands.Script = ⊥
 HasList rows subcommands.Desk = ⊥
@@ -479,7 +484,7 @@ HasList rows subcommands.Import = ⊥
 HasList rows subcommands.Replace = ⊥
 HasList rows subcommands.Check = all_of (codes "file") rows ≢ None
 HasList rows subcommands.Proof = all_of (codes "set") rows ≢ None
-HasList rows subcommands.Punch = ⊥
+HasList rows subcommands.Punch = all_of (codes "feed") rows ≢ None
 HasList rows subcommands.Read = ⊥
 HasList rows subcommands.Sorts = ⊥
 HasList rows subcommands.Renumber = ⊥
@@ -503,7 +508,7 @@ abbrev pub IsAsked : List Text → Option Wish → Type 0
 IsAsked words (Some wish) = AsksFor words wish
 IsAsked words None = (wish : Wish) → AsksFor words wish → ⊥
 
--- the number of its site may be one
+-- the number of its site may be one, and feeds are not none
 abbrev pub IsLawful : Wish → Type 0
 IsLawful (wishes.Script manner) = Unit {0}
 IsLawful (wishes.Desk feed site older why manner) = 1 ≤ site
@@ -514,8 +519,8 @@ IsLawful (wishes.Export feed until) = Unit {0}
 IsLawful (wishes.Import feed site older plain all) = 1 ≤ site
 IsLawful (wishes.Replace feed site older old new plain at all) = 1 ≤ site
 IsLawful (wishes.Check files) = Unit {0}
-IsLawful (wishes.Proof galley picture force sets) = Unit {0}
-IsLawful (wishes.Punch from target force faulty) = Unit {0}
+IsLawful (wishes.Proof galley drawings sets) = Unit {0}
+IsLawful (wishes.Punch feeds case wedge target force faulty) = 1 ≤ length feeds.items
 IsLawful (wishes.Read from extent picture force) = Unit {0}
 IsLawful (wishes.Sorts feed until case layout) = Unit {0}
 IsLawful (wishes.Renumber feed other site) = 1 ≤ site

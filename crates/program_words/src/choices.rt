@@ -1,8 +1,10 @@
-//! What options choose together: the lines or the figures of a ribbon, a feed or a text, and how faults are written.
+//! What options choose together: the lines or the figures of a ribbon, a feed or a text, how faults are written, and
+//! how high pages are.
 
 ghost use Rattle.std.specs.Prelude.{◌≡◌, option_map};
-ghost use Rattle.program_words.specs.Choices.{AreFigures, AreLines, IsChosen, IsNumberIn, IsPitchIn, IsRangeIn};
-ghost use Rattle.program_words.specs.Choices.{IsRising, IsShown, IsWritten, parts_at};
+ghost use Rattle.program_words.specs.Choices.{AreFigures, AreLines, ArePoints, IsChosen, IsHeightIn, IsNumberIn};
+ghost use Rattle.program_words.specs.Choices.{IsPageIn, IsPaged, IsPitchIn, IsRangeIn, IsRising, IsShown, IsWritten};
+ghost use Rattle.program_words.specs.Choices.{parts_at};
 
 /// What is written of a ribbon.
 #[derive(Clone, Copy, Debug, PartialEq, Eq)]
@@ -113,6 +115,32 @@ fn pitch_in(text: &str) -> Option<(u16, u16)>
     Some((over, under))
 }
 
+/// The points from 200 to 14400 that a text is.
+fn points_in(text: &str) -> Option<u16>
+    ensures { ArePoints text.now result }
+{
+    match short_in(text) {
+        Some(points) => {
+            if points < 200 || points > 14400 {
+                return None;
+            }
+            Some(points)
+        }
+        None => None,
+    }
+}
+
+/// The height in points that a text as `a4`, `letter` or `600` gives.
+fn height_in(text: &str) -> Option<u16>
+    ensures { IsHeightIn text.now result }
+{
+    match text {
+        "a4" => Some(842),
+        "letter" => Some(792),
+        _ => points_in(text),
+    }
+}
+
 /// The lines that a text names, as what is written.
 fn lines_in(text: &str) -> Option<Extent>
     ensures { AreLines text.now result }
@@ -178,5 +206,33 @@ pub fn form_by(format: Option<&str>, faults: bool) -> Option<Form>
         }
         Some("gcc") => Some(Form::Located),
         Some(_) => None,
+    }
+}
+
+/// The height that a text gives, as what is given.
+fn page_in(text: &str) -> Option<Option<u16>>
+    ensures { IsPageIn text.now result }
+{
+    match height_in(text) {
+        Some(height) => Some(Some(height)),
+        None => None,
+    }
+}
+
+/// The height of pages in points, if one is given, by the text of `--page` and the names of a picture and of a
+/// document. A text that is no height, and one beside neither name, give nothing.
+pub fn page_by(
+    page: Option<&str>,
+    picture: Option<&str>,
+    document: Option<&str>,
+) -> Option<Option<u16>>
+    ensures { IsPaged (option_map (λ t. t.now) page.entry) (option_map (λ t. t.now) picture.entry)
+        (option_map (λ t. t.now) document.entry) result }
+{
+    match (page, picture, document) {
+        (None, _, _) => Some(None),
+        (Some(text), Some(_), _) => page_in(text),
+        (Some(text), None, Some(_)) => page_in(text),
+        (Some(_), None, None) => None,
     }
 }

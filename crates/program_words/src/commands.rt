@@ -426,6 +426,16 @@ fn proof_command<'a>(alloc: Global) -> Result<Command<'a>, AllocError>
             "svg",
             "Stores a picture of the galley in this file too.",
         ),
+        (
+            Kind::Choice,
+            "html",
+            "Stores the galley as a document with pages in this file too.",
+        ),
+        (
+            Kind::Choice,
+            "page",
+            "How high a page of the picture or the document is: a4, letter, or so many points.",
+        ),
         FORCE,
         (
             Kind::Each,
@@ -441,7 +451,11 @@ fn punch_command<'a>(alloc: Global) -> Result<Command<'a>, AllocError>
     ensures { IfOk result (IsMade punch_app PUNCH.now ON_PUNCH.now) }
 {
     let arguments = [
-        FEED,
+        (
+            Kind::Names,
+            "feed",
+            "The names of the files that the feeds are stored in, in the order of their galleys.",
+        ),
         CASE,
         WEDGE,
         (

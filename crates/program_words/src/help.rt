@@ -38,7 +38,7 @@ pub const RENEW: &str = "Begins a new feed with the copy and the settings of a s
 pub const PROOF: &str =
     "Writes the galley of a stored feed or of a text, and each fault at its text.";
 
-pub const PUNCH: &str = "Stores the ribbon of a stored feed in a file.";
+pub const PUNCH: &str = "Stores the ribbon of one or more stored feeds in a file.";
 
 pub const READ: &str = "Writes what a caster would cast of a stored ribbon.";
 
@@ -74,6 +74,8 @@ As in:
                                             its lines as they are cast, and each fault at its text
   copydesk proof --text one.txt --case case12.toml --wedge wedge5.toml --set measure=150 --set tight=40 --set loose=150
                                             the same, of a text
+  copydesk proof one.feed --case case12.toml --wedge wedge5.toml --html one.html
+                                            the same, as a document to be read and printed too
   copydesk punch one.feed --case case12.toml --wedge wedge5.toml -o one.rib
                                             the ribbon, in a file
   copydesk read one.rib --case case12.toml --wedge wedge5.toml
@@ -264,11 +266,16 @@ pub const ON_PROOF: &str = "\
 As in: copydesk proof one.feed --case case12.toml --wedge wedge5.toml
 
 First stand the faults of the copy: each is a correction that is not shown. Then each line has its number, its
-places in the copy, its wedge pair with a gauge between tight and loose, its words, and its fills; at the end
-each fault stands at its text, with the way out in figures. With `--faults` the faults stand alone.
+places in the copy, its wedge pair with a gauge between tight and loose, its words, and its fills; at the end each
+fault stands at its text, with the way out in figures. With `--faults` the faults stand alone.
 `--svg one.svg` stores a picture of the galley too, for any browser. It replaces only a picture or an empty file:
-`--force` replaces any. `--set loose=200` tries a setting in place of the copy's, and may stand more than once. With
-`--at 774` it is the galley of the copy as it was. The feed does not change.
+`--force` replaces any.
+`--html one.html` stores a document too, for any browser, to be read and printed: a table of the lines at fault,
+with links to them, and the lines on pages. It replaces only a document or an empty file. `--page letter` says how
+high a page is: `a4`, `letter`, or so many points, 200 to 14400. A document without it has pages of `a4`; a picture
+with it is in pages, and of more than one each has a file: `one.1.svg`, `one.2.svg` and so on.
+`--set loose=200` tries a setting in place of the copy's, and may stand more than once. With `--at 774` it is the
+galley of the copy as it was. The feed does not change.
 `--text one.txt` sets the text of a file, with the marks of `copydesk export`: `--set` gives its measure, tight and
 loose. With `--plain` it has no marks. `--format gcc` writes each fault on one line for editors, `one.txt:12:40: too
 loose (wedge sum 190, limit 150)`, with line and column of the text, or of what `copydesk export` writes. `--warn`
@@ -282,10 +289,12 @@ words were refused.";
 pub const ON_PUNCH: &str = "\
 As in: copydesk punch one.feed --case case12.toml --wedge wedge5.toml -o one.rib
 
-The ribbon of the feed's copy is stored as a feed is: written whole beside the name, and then renamed. Where the
-job has faults nothing is stored, and they stand in one line on standard output; `copydesk proof` shows them
-at their text. So where the copy has faults: a correction is not shown then. `--faulty` punches all the same.
-The ribbon replaces only a ribbon or an empty file: `--force` replaces any, but the feed, the case and the wedge.
+The ribbon of the feed's copy is stored as a feed is: written whole beside the name, and then renamed. Where the job
+has faults nothing is stored, and they stand in one line on standard output; `copydesk proof` shows them at their
+text. So where the copy has faults: a correction is not shown then. `--faulty` punches all the same.
+Of several feeds, as in `copydesk punch one.feed two.feed ..`, one ribbon has the galleys: one after the other, each
+by its own settings. Where one of them has faults, or is not there, nothing is stored.
+The ribbon replaces only a ribbon or an empty file: `--force` replaces any, but the feeds, the case and the wedge.
 
 Status: 0 the ribbon is stored; 1 it is not, and standard error says why; 2 the words were refused.";
 
@@ -294,11 +303,12 @@ pub const ON_READ: &str = "\
 As in: copydesk read one.rib --case case12.toml --wedge wedge5.toml
 
 Each line that a caster would cast has its number, its wedge pair, its width, how short of the longest it is, and
-its text as read; or the first fault stands there with its row. `--lines 2..4` takes these lines alone. `--stats`
-writes figures in place of lines: the widest and the tightest line, how long the ribbon is, its matrices by the rows of
-the case. A row takes 1/8 inch, or the `--pitch` that is given. `--svg one.svg` stores a picture of the ribbon
-too: its rows as the caster meets them, with the meaning of each. It replaces only a picture or an empty file:
-`--force` replaces any.
+its text as read; or the first fault stands there with its row.
+Where a ribbon has several galleys, `-- end of galley 1 --` stands behind the last line of the first, and so on.
+`--lines 2..4` takes these lines alone. `--stats` writes figures in place of lines: the widest and the tightest
+line, how long the ribbon is, its matrices by the rows of the case. A row takes 1/8 inch, or the `--pitch` that is
+given. `--svg one.svg` stores a picture of the ribbon too: its rows as the caster meets them, with the meaning of
+each. It replaces only a picture or an empty file: `--force` replaces any.
 
 Status: 0 the ribbon is cast whole; 1 it has a fault, or a file cannot be read, or the text not be written, and standard
 error says so; 2 the words were refused.";

@@ -10,4 +10,4 @@ mod wishes;
 pub use choices::{Extent, Form, Source};
 pub use help::{COMMANDS, VERSION};
 pub use reading::read_words;
-pub use wishes::{Galley, Manner, Ribbon, Sources, Subcommand, Wish};
+pub use wishes::{Drawings, Galley, Manner, Ribbon, Subcommand, Wish};

@@ -2,12 +2,12 @@
 
 ghost use Rattle.std.specs.Prelude.{◌≡◌, ◌≢◌, ℕ, None, IfOk, IfSome, IsErr, IsNone, codes};
 ghost use Rattle.clap.specs.Words.{Text, all_of, found_of, rows_of, subcommand_rows_of};
-ghost use Rattle.program_words.specs.Words.{AreCopied, AreFormed, AreGalley, AreRibbon, AreShown};
-ghost use Rattle.program_words.specs.Words.{AreMetal, AreNames, AreSources, Chooses, HasFlag, HasList, HasManner};
+ghost use Rattle.program_words.specs.Words.{AreCopied, AreDrawn, AreFormed, AreGalley, AreRibbon, AreShown};
+ghost use Rattle.program_words.specs.Words.{AreMetal, AreNames, Chooses, HasFlag, HasList, HasManner};
 ghost use Rattle.program_words.specs.Words.{HasNumber, HasRoom, HasSite};
 ghost use Rattle.program_words.specs.Words.{IsReported, IsWished, ListsNames, NamesDesk, all_given, name_of, texts_of};
 
-use crate::choices::{Extent, Form, Source, extent_by, form_by, source_by};
+use crate::choices::{Extent, Form, Source, extent_by, form_by, page_by, source_by};
 use clap::ArgMatches;
 use std::alloc::{AllocError, Global};
 
@@ -52,12 +52,14 @@ pub struct Ribbon<'a> {
     pub wedge: &'a str,
 }
 
-/// The names of a stored feed, of a case file and of a wedge file.
+/// The names of the files that a galley is drawn in, a picture and a document; the height of their pages in points, if
+/// one is given; and whether whatever stands there is replaced.
 #[derive(Clone, Copy, Debug, PartialEq, Eq)]
-pub struct Sources<'a> {
-    pub feed: &'a str,
-    pub case: &'a str,
-    pub wedge: &'a str,
+pub struct Drawings<'a> {
+    pub picture: Option<&'a str>,
+    pub document: Option<&'a str>,
+    pub page: Option<u16>,
+    pub force: bool,
 }
 
 /// How commands are to be carried out and answered, as the flags say.
@@ -137,18 +139,18 @@ pub enum Wish<'a> {
     Check {
         files: Vec<&'a str>,
     },
-    /// A galley, the name of the file that its picture is stored in, whether whatever stands there is replaced, and the
-    /// settings that are tried in place of the copy's.
+    /// A galley, the files that it is drawn in, and the settings that are tried in place of the copy's.
     Proof {
         galley: Galley<'a>,
-        picture: Option<&'a str>,
-        force: bool,
+        drawings: Drawings<'a>,
         sets: Vec<&'a str>,
     },
-    /// The ribbon of a stored feed by a case and a wedge, stored under the name of a target; whether whatever stands
-    /// there is replaced, and whether a copy with faults is punched.
+    /// The ribbon of stored feeds, one at least, by a case and a wedge, stored under the name of a target; whether
+    /// whatever stands there is replaced, and whether a copy with faults is punched.
     Punch {
-        from: Sources<'a>,
+        feeds: Vec<&'a str>,
+        case: &'a str,
+        wedge: &'a str,
         target: &'a str,
         force: bool,
         faulty: bool,
@@ -449,22 +451,6 @@ fn check_wish<'a>(alloc: Global, matches: &ArgMatches<'a>) -> Result<Option<Wish
     }
 }
 
-/// The names of a feed, a case and a wedge that a subcommand's matches hold.
-fn sources_of<'a>(matches: &ArgMatches<'a>) -> Option<Sources<'a>>
-    ensures { AreSources (rows_of (found_of matches.now)) result }
-{
-    let Some(feed) = matches.get_str("feed") else {
-        return None;
-    };
-    let Some(case) = matches.get_str("case") else {
-        return None;
-    };
-    match matches.get_str("wedge") {
-        Some(wedge) => Some(Sources { feed, case, wedge }),
-        None => None,
-    }
-}
-
 /// The name that an option gives.
 fn choice_of<'a>(matches: &ArgMatches<'a>, name: &str) -> Option<&'a str>
     ensures { Chooses name.now (rows_of (found_of matches.now)) result }
@@ -531,6 +517,27 @@ fn galley_of<'a>(matches: &ArgMatches<'a>) -> Option<Galley<'a>>
     }
 }
 
+/// The files that this galley is drawn in.
+fn drawings_of<'a>(matches: &ArgMatches<'a>) -> Option<Drawings<'a>>
+    ensures { AreDrawn (rows_of (found_of matches.now)) result }
+{
+    let picture = choice_of(matches, "svg");
+    let document = choice_of(matches, "html");
+    let height = choice_of(matches, "page");
+    match page_by(height, picture, document) {
+        Some(page) => {
+            let force = flag_of(matches, "force");
+            Some(Drawings {
+                picture,
+                document,
+                page,
+                force,
+            })
+        }
+        None => None,
+    }
+}
+
 fn proof_wish<'a>(alloc: Global, matches: &ArgMatches<'a>) -> Result<Option<Wish<'a>>, AllocError>
     ensures wish { IfOk result (IsReported (rows_of (found_of matches.now)) Subcommand.Proof) }
     ensures memory { IsErr result → HasList (rows_of (found_of matches.now)) Subcommand.Proof }
@@ -538,13 +545,13 @@ fn proof_wish<'a>(alloc: Global, matches: &ArgMatches<'a>) -> Result<Option<Wish
     let Some(galley) = galley_of(matches) else {
         return Ok(None);
     };
-    let picture = choice_of(matches, "svg");
-    let force = flag_of(matches, "force");
+    let Some(drawings) = drawings_of(matches) else {
+        return Ok(None);
+    };
     let sets = sets_of(alloc, matches)?;
     Ok(Some(Wish::Proof {
         galley,
-        picture,
-        force,
+        drawings,
         sets,
     }))
 }
@@ -622,24 +629,36 @@ fn sorts_wish<'a>(matches: &ArgMatches<'a>) -> Option<Wish<'a>>
     }
 }
 
-fn punch_wish<'a>(matches: &ArgMatches<'a>) -> Option<Wish<'a>>
-    ensures { IsReported (rows_of (found_of matches.now)) Subcommand.Punch result }
+fn punch_wish<'a>(alloc: Global, matches: &ArgMatches<'a>) -> Result<Option<Wish<'a>>, AllocError>
+    ensures wish { IfOk result (IsReported (rows_of (found_of matches.now)) Subcommand.Punch) }
+    ensures memory { IsErr result → HasList (rows_of (found_of matches.now)) Subcommand.Punch }
 {
-    match sources_of(matches) {
-        Some(from) => match matches.get_str("output") {
-            Some(target) => {
-                let force = flag_of(matches, "force");
-                let faulty = flag_of(matches, "faulty");
-                Some(Wish::Punch {
-                    from,
-                    target,
-                    force,
-                    faulty,
-                })
+    let Some(case) = matches.get_str("case") else {
+        return Ok(None);
+    };
+    let Some(wedge) = matches.get_str("wedge") else {
+        return Ok(None);
+    };
+    let Some(target) = matches.get_str("output") else {
+        return Ok(None);
+    };
+    match names_of(alloc, matches, "feed")? {
+        Some(feeds) => {
+            if feeds.is_empty() {
+                return Ok(None);
             }
-            None => None,
-        },
-        None => None,
+            let force = flag_of(matches, "force");
+            let faulty = flag_of(matches, "faulty");
+            Ok(Some(Wish::Punch {
+                feeds,
+                case,
+                wedge,
+                target,
+                force,
+                faulty,
+            }))
+        }
+        None => Ok(None),
     }
 }
 
@@ -755,7 +774,7 @@ fn reported<'a>(
         Subcommand::Replace => Ok(replace_wish(matches)),
         Subcommand::Check => check_wish(alloc, matches),
         Subcommand::Proof => proof_wish(alloc, matches),
-        Subcommand::Punch => Ok(punch_wish(matches)),
+        Subcommand::Punch => punch_wish(alloc, matches),
         Subcommand::Read => Ok(read_wish(matches)),
         Subcommand::Sorts => Ok(sorts_wish(matches)),
         Subcommand::Renumber => Ok(renumber_wish(matches)),
@@ -766,8 +785,8 @@ fn reported<'a>(
     }
 }
 
-/// What the matches ask for. Out of memory comes only of a subcommand that was given a list: other feeds, files, or
-/// settings to be tried.
+/// What the matches ask for. Out of memory comes only of a subcommand that was given a list: feeds, files, or settings
+/// to be tried.
 pub fn wish_of<'a>(alloc: Global, matches: &ArgMatches<'a>) -> Result<Option<Wish<'a>>, AllocError>
     ensures wish { IfOk result (IsWished (subcommand_rows_of matches.now)) }
     ensures memory { IsErr result → ListsNames (subcommand_rows_of matches.now) }
