@@ -5,3 +5,4 @@ pub mod Explaining
 pub mod Previewing
 pub mod Typed
 pub mod InRooms
+pub mod Placing

@@ -1,5 +1,5 @@
 -- The cause of what stopped: which file it was, or which end of the program, and why.
-use Rattle.std.specs.Prelude.{ℕ, List, Option, None, Some, slice_get}
+use Rattle.std.specs.Prelude.{ℕ, ◌-◌, ◌==◌, List, Option, None, Some, if◌then◌else◌, slice_get}
 use Rattle.std.specs.Borrow.{Bor}
 use Rattle.clap.specs.Words.{Text}
 use Rattle.feed_files.specs.declared.files.FileRefusal.{FileRefusal}
@@ -34,8 +34,8 @@ use Rattle.feed_edit.specs.declared.replace_fault.ReplaceFault.{ReplaceFault}
 use Rattle.feed_edit.specs.declared.replace_fault.ReplaceFault.TheVariants as replacements
 use Rattle.feed_check.specs.declared.fault.CheckFault.{CheckFault}
 use Rattle.feed_check.specs.declared.fault.CheckFault.TheVariants as checks
-use Rattle.feed_compare.specs.declared.fault.DifferenceFault.{DifferenceFault}
-use Rattle.feed_compare.specs.declared.fault.DifferenceFault.TheVariants as differences
+use Rattle.feed_sites.specs.declared.difference_fault.DifferenceFault.{DifferenceFault}
+use Rattle.feed_sites.specs.declared.difference_fault.DifferenceFault.TheVariants as differences
 use Rattle.view_proof.specs.declared.reasons.OtherNumber.{OtherNumber}
 use Rattle.view_proof.specs.declared.reasons.OtherNumber.TheVariants as others
 use Rattle.view_preview.specs.declared.fault.PreviewFault.{PreviewFault}
@@ -47,6 +47,9 @@ use Rattle.view_ribbon.specs.declared.sources.Sources as ribbons
 use Rattle.view_ribbon.specs.declared.fault.ReadingFault.{ReadingFault}
 use Rattle.view_ribbon.specs.declared.fault.ReadingFault.TheVariants as readings
 use Rattle.view_preview.specs.declared.sources.Sources.{Sources}
+use Rattle.view_punch.specs.Punching.{source_of}
+use Rattle.view_punch.specs.declared.punching.Galleys.{Galleys}
+use Rattle.view_punch.specs.declared.punching.Stop.{Stop}
 use Rattle.view_preview.specs.declared.job.Job.{Job}
 use Rattle.view_preview.specs.declared.job.Source.{Source}
 use Rattle.view_preview.specs.declared.job.Source.TheVariants as given
@@ -242,6 +245,31 @@ preview_cause from target previews.Write = causes.ReportOutput
 preview_cause from target (previews.Taken kind) = causes.Taken target kind
 preview_cause from target (previews.Unstored why) = unstored_cause from.version.feed target why
 preview_cause from target previews.NoMemory = causes.NoMemory from.version.feed
+
+-- of two names the second, if there is one
+abbrev pub or_first : Bor Text → Option (Bor Text) → Bor Text
+or_first first None = first
+or_first first (Some other) = other
+
+-- the feed at a place: 0 is the first
+abbrev pub feed_at : Galleys → ℕ → Bor Text
+feed_at from at = if at == 0 then from.first else or_first from.first (slice_get from.others.now (at - 1))
+
+-- of a ribbon that would be too long, or else of the feed that stopped it
+abbrev pub made_cause : Sources → Bor Text → PreviewFault → Cause
+made_cause from target (previews.Feed why) = preview_cause from target (previews.Feed why)
+made_cause from target (previews.Text why) = preview_cause from target (previews.Text why)
+made_cause from target previews.TooLong = causes.LongRibbon target
+made_cause from target (previews.Input why) = preview_cause from target (previews.Input why)
+made_cause from target previews.CopyFaults = preview_cause from target previews.CopyFaults
+made_cause from target (previews.Faulty other) = preview_cause from target (previews.Faulty other)
+made_cause from target previews.Write = preview_cause from target previews.Write
+made_cause from target (previews.Taken kind) = preview_cause from target (previews.Taken kind)
+made_cause from target (previews.Unstored why) = preview_cause from target (previews.Unstored why)
+made_cause from target previews.NoMemory = preview_cause from target previews.NoMemory
+
+abbrev pub punch_cause : Galleys → Bor Text → Stop → Cause
+punch_cause from target stop = made_cause (source_of from (feed_at from stop.feed)) target stop.why
 
 -- the name of what is set
 abbrev pub name_of : Source → Bor Text

@@ -4,8 +4,8 @@ use Rattle.std.specs.Borrow.{Bor}
 use Rattle.clap.specs.Words.{Text}
 use Rattle.feed_files.specs.Files.{Shelf, Stays}
 use Rattle.feed_edit.specs.declared.exporting.Version.{Version}
-use Rattle.feed_compare.specs.Reporting.{IsReported, IsUnreported}
-use Rattle.feed_compare.specs.declared.fault.DifferenceFault.{DifferenceFault}
+use Rattle.feed_sites.specs.Reporting.{IsReported, IsUnreported}
+use Rattle.feed_sites.specs.declared.difference_fault.DifferenceFault.{DifferenceFault}
 use Rattle.view_ribbon.specs.Comparing.{IsComparison, IsNoComparison}
 use Rattle.view_ribbon.specs.declared.comparing.Pair.{Pair}
 use Rattle.view_ribbon.specs.declared.fault.ComparisonFault.{ComparisonFault}

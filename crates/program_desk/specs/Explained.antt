@@ -27,6 +27,7 @@ place_words line column why = codes ": line " ++ (decimal line ++ (codes ", colu
 abbrev pub source_words : Output → List ℕ
 source_words outputs.Ribbon = codes ": the ribbon would take its place\n"
 source_words outputs.Picture = codes ": the picture would take its place\n"
+source_words outputs.Document = codes ": the document would take its place\n"
 
 -- The line on a cause. What files say of a refusal themselves, and what is said of a number, a case or a wedge, is any
 -- text. Of a feed's fault, a kind and another number the line has the name of the file, and any text.
@@ -52,6 +53,7 @@ IsExplained (causes.Unread name row column why) line = (shown : List ℕ) × IsS
     × (line ≡ shown ++ place_words row column why)
 IsExplained (causes.LongText name) line =
     IsNamed name.now (codes ": it has more than 8388608 bytes, or 1048576 symbols\n") line
+IsExplained (causes.LongRibbon name) line = IsNamed name.now (codes ": it would have more than 67108864 bytes\n") line
 IsExplained (causes.NoSetting text) line = (shown : List ℕ) × IsShown text.now shown
     × (line ≡ codes "--set " ++ (shown ++ codes ": no setting, or no value that it may have\n"))
 IsExplained (causes.Line feed number) line = (shown : List ℕ) × IsShown feed.now shown

@@ -79,6 +79,7 @@ head_line (causes.Case case why) = codes "copydesk: input refused\n"
 head_line (causes.Other name other) = codes "copydesk: no ribbon\n"
 head_line (causes.Unread name line column why) = codes "copydesk: input refused\n"
 head_line (causes.LongText name) = codes "copydesk: too long\n"
+head_line (causes.LongRibbon name) = codes "copydesk: too long\n"
 head_line (causes.NoSetting text) = codes "copydesk: input refused\n"
 head_line (causes.Line feed number) = codes "copydesk: line " ++ (decimal number ++ codes " refused\n")
 head_line causes.Input = codes "copydesk: read fault\n"

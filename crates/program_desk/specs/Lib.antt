@@ -1,6 +1,7 @@
 pub mod ByHand
 pub mod Causes
 pub mod Previews
+pub mod Depicting
 pub mod Readings
 pub mod Texts
 pub mod Runs

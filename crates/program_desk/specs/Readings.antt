@@ -17,7 +17,7 @@ use Rattle.feed_edit.specs.declared.exporting.Version.{Version}
 use Rattle.view_preview.specs.declared.fault.PreviewFault.{PreviewFault}
 use Rattle.program_desk.specs.Causes.{reading_cause, sorts_cause}
 use Rattle.program_desk.specs.Explained.{IsSilent, Reports, ReportsMore, StaysSo, TellsOf}
-use Rattle.program_desk.specs.Previews.{IsSource}
+use Rattle.program_desk.specs.Depicting.{IsSource}
 use Rattle.program_desk.specs.declared.causes.Cause.TheVariants as causes
 use Rattle.program_desk.specs.declared.causes.Output.TheVariants as outputs
 use Rattle.program_desk.specs.declared.readings.Reading.{Reading}

@@ -15,7 +15,8 @@ use Rattle.program_desk.specs.Compared.{AreCastAlike, AreNotCastAlike, AreNotOne
 use Rattle.program_desk.specs.Sheets.{IsOffDesk, IsOnDesk, IsScripted, IsUnscripted}
 use Rattle.program_desk.specs.Previews.{IsInFile, IsInNoFile, IsSeen, IsUnseen}
 use Rattle.program_desk.specs.Readings.{IsListed, IsNotListed, IsNotReadWhole, IsReadWhole}
-use Rattle.program_desk.specs.Wanted.{preview_of, reading_of, sources_of}
+use Rattle.program_desk.specs.Wanted.{AreGalleys, preview_of, reading_of}
+use Rattle.view_punch.specs.declared.punching.Galleys.{Galleys}
 use Rattle.view_ribbon.specs.declared.comparing.Pair.{Pair}
 use Rattle.feed_edit.specs.declared.exporting.Version.{Version}
 use Rattle.feed_edit.specs.declared.texts.Where.{Where}
@@ -46,8 +47,8 @@ version_of feed until = record { feed = feed; until = until }
 abbrev pub pair_of : Bor Text → Bor Text → Bor Text → Bor Text → Pair
 pair_of one other case wedge = record { one = one; other = other; case = case; wedge = wedge }
 
--- what is asked for was done; a script, an export, a check, a proof and a reading without a picture, and a list of
--- sorts change no file
+-- what is asked for was done; a script, an export, a check, a proof and a reading that store nothing, and a list of sorts
+-- change no file
 abbrev pub Does : Wish → Shelf → Shelf → Option (List ℕ) → Option (List ℕ) → Option (List ℕ) → Type 0
 Does (wishes.Script manner) first last input before after = IsScripted manner first last input before after
 Does (wishes.Desk feed site older why manner) first last input before after =
@@ -65,10 +66,11 @@ Does (wishes.Import feed site older plain all) first last input before after =
 Does (wishes.Replace feed site older old new plain at all) first last input before after =
     IsReplaced feed.now site older (exchange old new plain (where_of at all)) first last before after
 Does (wishes.Check files) first last input before after = AreFound (texts_of files.items) first last before after
-Does (wishes.Proof galley picture force sets) first last input before after =
-    IsSeen (preview_of galley picture force) sets.items first last before after
-Does (wishes.Punch from target force faulty) first last input before after =
-    IsInFile (sources_of from) target.now force faulty first last before after
+Does (wishes.Proof galley drawings sets) first last input before after =
+    IsSeen (preview_of galley drawings) sets.items first last before after
+Does (wishes.Punch feeds case wedge target force faulty) first last input before after =
+    (from : Galleys) × AreGalleys from feeds.items case wedge
+    × IsInFile from target.now force faulty first last before after
 Does (wishes.Read from extent picture force) first last input before after =
     IsReadWhole (reading_of from extent picture force) first last before after
 Does (wishes.Sorts feed until case layout) first last input before after =
@@ -105,10 +107,11 @@ Stops (wishes.Replace feed site older old new plain at all) first last input bef
     IsUnchanged feed site older (exchange old new plain (where_of at all)) first last before after whole quiet said
 Stops (wishes.Check files) first last input before after whole quiet said =
     AreNotInOrder (texts_of files.items) first last before after whole quiet said
-Stops (wishes.Proof galley picture force sets) first last input before after whole quiet said =
-    IsUnseen (preview_of galley picture force) sets.items first last before after whole quiet said
-Stops (wishes.Punch from target force faulty) first last input before after whole quiet said =
-    IsInNoFile (sources_of from) target force faulty first last before after whole quiet said
+Stops (wishes.Proof galley drawings sets) first last input before after whole quiet said =
+    IsUnseen (preview_of galley drawings) sets.items first last before after whole quiet said
+Stops (wishes.Punch feeds case wedge target force faulty) first last input before after whole quiet said =
+    (from : Galleys) × AreGalleys from feeds.items case wedge
+    × IsInNoFile from target force faulty first last before after whole quiet said
 Stops (wishes.Read from extent picture force) first last input before after whole quiet said =
     IsNotReadWhole (reading_of from extent picture force) first last before after whole quiet said
 Stops (wishes.Sorts feed until case layout) first last input before after whole quiet said =

@@ -1,5 +1,5 @@
 -- What galleys, ribbons and readings are made of, as the words ask for them.
-use Rattle.std.specs.Prelude.{Bool, Option, None, Some}
+use Rattle.std.specs.Prelude.{◌≡◌, Bool, List, Option, None, Some}
 use Rattle.std.specs.Borrow.{Bor}
 use Rattle.clap.specs.Words.{Text}
 use Rattle.program_words.specs.declared.choices.Extent as asked_extent
@@ -8,22 +8,23 @@ use Rattle.program_words.specs.declared.choices.Form as asked_form
 use Rattle.program_words.specs.declared.choices.Form.TheVariants as asked_forms
 use Rattle.program_words.specs.declared.choices.Source as asked_source
 use Rattle.program_words.specs.declared.choices.Source.TheVariants as asked_sources
+use Rattle.program_words.specs.declared.wishes.Drawings.{Drawings}
 use Rattle.program_words.specs.declared.wishes.Galley.{Galley}
 use Rattle.program_words.specs.declared.wishes.Ribbon.{Ribbon}
-use Rattle.program_words.specs.declared.wishes.Sources as words
 use Rattle.view_preview.specs.declared.job.Source.{Source}
 use Rattle.view_preview.specs.declared.job.Source.TheVariants as sources
 use Rattle.view_preview.specs.declared.manner.Form.{Form}
 use Rattle.view_preview.specs.declared.manner.Form.TheVariants as forms
-use Rattle.view_preview.specs.declared.sources.Sources.{Sources}
+use Rattle.view_punch.specs.Punching.{feeds_of}
+use Rattle.view_punch.specs.declared.punching.Galleys.{Galleys}
 use Rattle.view_ribbon.specs.declared.extent.Extent.{Extent}
 use Rattle.view_ribbon.specs.declared.extent.Extent.TheVariants as extents
 use Rattle.program_desk.specs.declared.previews.Preview.{Preview}
 use Rattle.program_desk.specs.declared.readings.Reading.{Reading}
 
--- a stored feed, and the files of a case and a wedge
-abbrev pub sources_of : words.Sources → Sources
-sources_of from = record { version = record { feed = from.feed; until = None }; case = from.case; wedge = from.wedge }
+-- these are stored feeds, and the files of a case and a wedge
+abbrev pub AreGalleys : Galleys → List (Bor Text) → (case wedge : Bor Text) → Type 0
+AreGalleys from feeds case wedge = (feeds_of from ≡ feeds) × (from.case ≡ case) × (from.wedge ≡ wedge)
 
 -- what a galley is of
 abbrev pub source_of : asked_source.Source → Source
@@ -36,13 +37,12 @@ form_of asked_forms.Whole = forms.Whole
 form_of asked_forms.Faults = forms.Faults
 form_of asked_forms.Located = forms.Located
 
--- a galley, with its picture
-abbrev pub preview_of : Galley → Option (Bor Text) → Bool → Preview
-preview_of galley picture force = record {
+-- a galley, with the files that it is drawn in
+abbrev pub preview_of : Galley → Drawings → Preview
+preview_of galley drawings = record {
   job = record { source = source_of galley.source; case = galley.case; wedge = galley.wedge };
   manner = record { form = form_of galley.form; looks = galley.looks };
-  picture = picture;
-  force = force;
+  drawings = drawings;
 }
 
 -- how much is written of a ribbon

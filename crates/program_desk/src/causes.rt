@@ -2,7 +2,7 @@
 
 ghost use Rattle.std.specs.Prelude.{◌≡◌, slice_get};
 ghost use Rattle.program_desk.specs.Causes.{check_cause, desk_cause, difference_cause, export_cause, feed_cause};
-ghost use Rattle.program_desk.specs.Causes.{file_cause};
+ghost use Rattle.program_desk.specs.Causes.{feed_at, file_cause, punch_cause};
 ghost use Rattle.program_desk.specs.Causes.{import_cause, input_cause, keep_cause, last_cause, merge_cause};
 ghost use Rattle.program_desk.specs.Causes.{number_cause, other_cause, preview_cause, reading_cause, renew_cause};
 ghost use Rattle.program_desk.specs.Causes.{renumber_cause, replace_cause, revision_cause, room_cause, sheet_cause};
@@ -13,19 +13,19 @@ ghost use Rattle.program_desk.specs.Causes.{unset_cause, unstored_cause};
 use desk_codec::FeedFault;
 use desk_script::{MAX_SHEET, RoomFault, RunFault, SheetFault};
 use feed_check::CheckFault;
-use feed_compare::DifferenceFault;
 use feed_edit::{
     ExchangeFault, ExportFault, FeedTrouble, ImportFault, InputFault, KeepFault, MAX_TEXT,
     MergeFault, PlaceFault, ReplaceFault, RevisionFault, TakeFault, Version,
 };
 use feed_files::{FileRefusal, Kind};
-use feed_sites::{NumberFault, RenewFault, RenumberFault};
+use feed_sites::{DifferenceFault, NumberFault, RenewFault, RenumberFault};
 use feed_stored::LastFault;
 use script_answers::Refusal;
 use std::alloc::Allocator;
 use text_copy::TextFault;
 use view_preview::{Job, PreviewFault, Source, Sources, TrialFault};
 use view_proof::OtherNumber;
+use view_punch::{Galleys, Stop};
 use view_ribbon::{ComparisonFault, Pair, ReadingFault};
 
 /// Which text is no copy.
@@ -100,6 +100,8 @@ pub enum Cause<'a> {
     Unread(&'a str, u64, u64, text_copy::Cause),
     /// This file's text is longer than any that is set.
     LongText(&'a str),
+    /// The ribbon that was to be stored under this name is longer than any file that is read.
+    LongRibbon(&'a str),
     /// This text of `--set` names no setting, or gives it no value that it may have.
     NoSetting(&'a str),
     /// The line of this number of a sheet was refused: its answer says why, and this feed is as it was.
@@ -121,6 +123,7 @@ pub enum Cause<'a> {
 pub enum Output {
     Ribbon,
     Picture,
+    Document,
 }
 
 /// The cause where a file was refused.
@@ -413,6 +416,39 @@ pub fn preview_cause<'a>(from: &Sources<'a>, target: &'a str, fault: PreviewFaul
         PreviewFault::Taken(kind) => Cause::Taken(target, kind),
         PreviewFault::Unstored(why) => unstored_cause(from.version.feed, target, why),
         PreviewFault::NoMemory => Cause::NoMemory(from.version.feed),
+    }
+}
+
+/// The feed at a place: 0 is the first.
+fn feed_at<'a>(from: &Galleys<'a>, at: usize) -> &'a str
+    ensures { result ≡ feed_at from.now at }
+{
+    if at == 0 {
+        return from.first;
+    }
+    let other = at - 1;
+    if other >= from.others.len() {
+        return from.first;
+    }
+    from.others[other]
+}
+
+/// The cause where no ribbon was stored of feeds: that of the feed that stopped it.
+pub fn punch_cause<'a>(from: &Galleys<'a>, target: &'a str, stop: Stop) -> Cause<'a>
+    ensures { result ≡ punch_cause from.now target.entry stop }
+{
+    let version = Version {
+        feed: feed_at(from, stop.feed),
+        until: None,
+    };
+    let source = Sources {
+        version,
+        case: from.case,
+        wedge: from.wedge,
+    };
+    match stop.why {
+        PreviewFault::TooLong => Cause::LongRibbon(target),
+        other => preview_cause(&source, target, other),
     }
 }
 

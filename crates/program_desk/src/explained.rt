@@ -108,6 +108,7 @@ fn source_words(output: Output) -> &'static str
     match output {
         Output::Ribbon => ": the ribbon would take its place\n",
         Output::Picture => ": the picture would take its place\n",
+        Output::Document => ": the document would take its place\n",
     }
 }
 
@@ -210,6 +211,10 @@ fn explain<E: Write, F: Explains>(
         }
         Cause::LongText(name) => {
             let words = b": it has more than 8388608 bytes, or 1048576 symbols\n";
+            tell_named(alloc, faults, told, name, words)
+        }
+        Cause::LongRibbon(name) => {
+            let words = b": it would have more than 67108864 bytes\n";
             tell_named(alloc, faults, told, name, words)
         }
         Cause::NoSetting(text) => tell_setting(alloc, faults, told, text),

@@ -149,6 +149,7 @@ pub fn tell_head<E: Write>(faults: &mut E, told: Told, cause: Cause<'_>) -> Told
         Cause::Other(_, _) => tell_more(faults, told, b"copydesk: no ribbon\n"),
         Cause::Unread(_, _, _, _) => tell_more(faults, told, b"copydesk: input refused\n"),
         Cause::LongText(_) => tell_more(faults, told, b"copydesk: too long\n"),
+        Cause::LongRibbon(_) => tell_more(faults, told, b"copydesk: too long\n"),
         Cause::NoSetting(_) => tell_more(faults, told, b"copydesk: input refused\n"),
         Cause::Line(_, number) => tell_count(faults, told, "copydesk: line ", number, " refused\n"),
         Cause::Input => tell_more(faults, told, b"copydesk: read fault\n"),

@@ -11,6 +11,7 @@ mod by_hand;
 mod causes;
 mod compared;
 mod completing;
+mod depicting;
 mod explained;
 mod headlines;
 mod history;

@@ -1,25 +1,26 @@
-//! A galley seen before it is cast: as text and as a picture, and its ribbon in a file.
+//! Galleys seen before they are cast: as text, as a picture and as a document, and their ribbon in a file.
 
-ghost use Rattle.std.specs.Option.{option_copied};
 ghost use Rattle.std.specs.Prelude.{◌≡◌, ◌≤◌, ◌↔◌, IfErr, IfOk, MatchResult, true};
 ghost use Rattle.desk_job.specs.Answer.{AreValues};
-ghost use Rattle.program_desk.specs.Causes.{preview_cause};
-ghost use Rattle.program_desk.specs.Explained.{Reports, StaysSo};
-ghost use Rattle.program_desk.specs.Previews.{IsInFile, IsInNoFile, IsPictureAbsent, IsPictureThere, IsSeen, IsSeenBy};
-ghost use Rattle.program_desk.specs.Previews.{IsShown, IsSource, IsUnseen, IsUnseenBy, IsUnshown};
+ghost use Rattle.program_desk.specs.Causes.{punch_cause};
+ghost use Rattle.program_desk.specs.Depicting.{IsSource};
+ghost use Rattle.program_desk.specs.Explained.{Reports};
+ghost use Rattle.program_desk.specs.Previews.{IsInFile, IsInNoFile, IsSeen, IsSeenBy, IsShown, IsUnseen, IsUnseenBy};
+ghost use Rattle.program_desk.specs.Previews.{IsUnshown, MakesRibbon, is_one_of};
 
-use crate::causes::{Cause, Output, name_of, preview_cause, proof_cause, trial_cause};
-use crate::reporting::{reported, reported_more, stopped};
-use crate::told::{Ending, Told, ended, silent};
+use crate::causes::{Cause, Output, proof_cause, punch_cause, trial_cause};
+use crate::depicting::{depicted, misplaced};
+use crate::reporting::{reported, stopped};
+use crate::told::{Ending, ended, silent};
 use desk_replica::Settings;
 use feed_files::{Files, Target};
 use program_host::Explains;
+use program_words::Drawings;
 use script_answers::Memory;
 use std::alloc::Global;
 use std::io::Write;
-use view_picture::picture_job;
-use view_preview::{Job, Manner, PreviewFault, Sources, proof_job, trial_of};
-use view_punch::punch_feed;
+use view_preview::{Job, Manner, PreviewFault, proof_job, trial_of};
+use view_punch::{Galleys, Stop, punch_feeds};
 
 /// The memory of all that a preview is made of.
 pub fn memory_of(alloc: Global) -> Memory<Global> {
@@ -29,14 +30,12 @@ pub fn memory_of(alloc: Global) -> Memory<Global> {
     }
 }
 
-/// A galley that is asked for: what it is of, how it is written, the name of the file that its picture is stored in, if
-/// any, and whether whatever stands there is replaced.
+/// A galley that is asked for: what it is of, how it is written, and the files that it is drawn in.
 #[derive(Clone, Copy)]
 pub struct Preview<'a> {
     pub job: Job<'a>,
     pub manner: Manner,
-    pub picture: Option<&'a str>,
-    pub force: bool,
+    pub drawings: Drawings<'a>,
 }
 
 /// Whether a name is one of those of what an output is made of.
@@ -66,44 +65,8 @@ fn shown<W: Write, F: Files>(
     proof_job(memory, writer, files, &asked.job, trial, asked.manner)
 }
 
-/// Stores the picture of a galley, where one is asked for, after what was written on standard error: with status 0 where
-/// none is asked for or it is there.
-fn pictured<E: Write, F: Files + Explains>(
-    alloc: Global,
-    asked: &Preview<'_>,
-    trial: &Settings,
-    told: Told,
-    faults: &mut E,
-    files: &mut F,
-) -> Ending
-    requires { AreValues trial.now }
-    ensures within { result.status ≤ 1 }
-    ensures there { result.status ≡ 0
-        → IsPictureThere asked.now.job trial.now (option_copied asked.now.picture) asked.now.force (F.shelf files.old)
-        (F.shelf files.new) × StaysSo told.is_whole result.told.is_whole (E.contents faults.old)
-        (E.contents faults.new) }
-    ensures absent { result.status ≡ 1
-        → IsPictureAbsent asked.now.job trial.now asked.now.picture asked.now.force (F.shelf files.old)
-        (F.shelf files.new) told.is_whole result.told.is_whole (E.contents faults.old) (E.contents faults.new) }
-{
-    let Some(name) = asked.picture else {
-        return Ending { status: 0, told };
-    };
-    let force = asked.force;
-    let target = Target { name, force };
-    let memory = memory_of(alloc);
-    match picture_job(memory, files, &asked.job, trial, &target) {
-        Ok(()) => Ending { status: 0, told },
-        Err(fault) => {
-            let cause = proof_cause(&asked.job, name, fault);
-            let told = reported_more(alloc, faults, told, files, cause);
-            Ending { status: 1, told }
-        }
-    }
-}
-
-/// Writes a galley, stores its picture where one is asked for, and says how that ended. The picture is stored also where
-/// the writer failed: whoever reads the galley may have seen enough of it.
+/// Writes a galley, stores its picture and its document where they are asked for, and says how that ended. These are
+/// stored also where the writer failed: whoever reads the galley may have seen enough of it.
 fn seen_by<W: Write, E: Write, F: Files + Explains>(
     alloc: Global,
     asked: &Preview<'_>,
@@ -123,7 +86,7 @@ fn seen_by<W: Write, E: Write, F: Files + Explains>(
 {
     match shown(alloc, asked, trial, writer, files) {
         Ok(clean) => {
-            let ending = pictured(alloc, asked, trial, silent(), faults, files);
+            let ending = depicted(alloc, asked, trial, silent(), faults, files);
             if clean {
                 return ending;
             }
@@ -134,7 +97,7 @@ fn seen_by<W: Write, E: Write, F: Files + Explains>(
         }
         Err(PreviewFault::Write) => {
             let told = reported(alloc, faults, files, Cause::ReportOutput).told;
-            let ending = pictured(alloc, asked, trial, told, faults, files);
+            let ending = depicted(alloc, asked, trial, told, faults, files);
             Ending {
                 status: 1,
                 told: ending.told,
@@ -144,9 +107,10 @@ fn seen_by<W: Write, E: Write, F: Files + Explains>(
     }
 }
 
-/// Writes a galley by its settings and those that texts as `loose=200` try, stores its picture where one is asked for,
-/// and says how that ended: with status 0 where there is no fault and all was written. The picture replaces only a
-/// picture, or, by force, any file but the feed or the text, the case and the wedge.
+/// Writes a galley by its settings and those that texts as `loose=200` try, stores its picture and then its document,
+/// each where it is asked for, and says how that ended: with status 0 where there is no fault and all was written. The
+/// picture replaces only a picture, and the document only a document, or, by force, any file but the feed or the text,
+/// the case and the wedge; the document does not replace the picture.
 pub fn proofed<W: Write, E: Write, F: Files + Explains>(
     alloc: Global,
     asked: &Preview<'_>,
@@ -163,12 +127,8 @@ pub fn proofed<W: Write, E: Write, F: Files + Explains>(
         → IsUnseen asked.now sets.now (F.shelf files.old) (F.shelf files.new) (W.contents writer.old)
         (W.contents writer.new) result.told.is_whole (E.contents faults.old) (E.contents faults.new) }
 {
-    if let Some(target) = asked.picture {
-        let job = &asked.job;
-        if is_source(name_of(job.source), job.case, job.wedge, target) {
-            let cause = Cause::Source(target, Output::Picture);
-            return stopped(alloc, faults, files, true, cause);
-        }
+    if let Some(cause) = misplaced(asked) {
+        return stopped(alloc, faults, files, true, cause);
     }
     match trial_of(alloc, sets) {
         Ok(trial) => seen_by(alloc, asked, &trial, writer, faults, files),
@@ -176,31 +136,50 @@ pub fn proofed<W: Write, E: Write, F: Files + Explains>(
     }
 }
 
+/// Whether a name is one of these.
+fn is_one_of(names: &[&str], target: &str) -> bool
+    ensures { result ≡ is_one_of names.now target.now }
+{
+    for &name in names {
+        if name == target {
+            return true;
+        }
+    }
+    false
+}
+
+/// Whether a name is one of those of what a ribbon is made of.
+fn makes_ribbon(from: &Galleys<'_>, target: &str) -> bool
+    ensures { result ≡ true ↔ MakesRibbon from.now target.now }
+{
+    is_source(from.first, from.case, from.wedge, target) || is_one_of(from.others, target)
+}
+
 /// How a punch ended.
 fn punch_ending<E: Write, F: Explains>(
     alloc: Global,
     faults: &mut E,
     files: &F,
-    from: &Sources<'_>,
+    from: &Galleys<'_>,
     target: &str,
-    outcome: Result<(), PreviewFault>,
+    outcome: Result<(), Stop>,
 ) -> Ending
     ensures { MatchResult outcome (λ _. result.status ≡ 0)
-        (λ fault. (result.status ≡ 1) × Reports (preview_cause from.now target.entry fault) result.told.is_whole
+        (λ stop. (result.status ≡ 1) × Reports (punch_cause from.now target.entry stop) result.told.is_whole
         (E.contents faults.old) (E.contents faults.new)) }
 {
     match outcome {
         Ok(()) => ended(0),
-        Err(fault) => reported(alloc, faults, files, preview_cause(from, target, fault)),
+        Err(stop) => reported(alloc, faults, files, punch_cause(from, target, stop)),
     }
 }
 
-/// Stores the ribbon of a stored feed under the name of a target, and says how that ended. The ribbon replaces only a
-/// ribbon, or, by force, any file but the feed, the case and the wedge. A copy with faults is punched only where that is
-/// asked for.
+/// Stores the ribbon of stored feeds, one galley after the other, under the name of a target, and says how that ended.
+/// The ribbon replaces only a ribbon, or, by force, any file but the feeds, the case and the wedge. A copy with faults is
+/// punched only where that is asked for. A stop is that of the feed at which it came, and nothing is stored then.
 pub fn punched<W: Write, E: Write, F: Files + Explains>(
     alloc: Global,
-    from: &Sources<'_>,
+    from: &Galleys<'_>,
     target: &Target<'_>,
     faulty: bool,
     writer: &mut W,
@@ -216,10 +195,10 @@ pub fn punched<W: Write, E: Write, F: Files + Explains>(
         (W.contents writer.old) (W.contents writer.new) result.told.is_whole (E.contents faults.old)
         (E.contents faults.new) }
 {
-    if is_source(from.version.feed, from.case, from.wedge, target.name) {
+    if makes_ribbon(from, target.name) {
         let cause = Cause::Source(target.name, Output::Ribbon);
         return stopped(alloc, faults, files, true, cause);
     }
-    let outcome = punch_feed(memory_of(alloc), writer, files, from, target, faulty);
+    let outcome = punch_feeds(memory_of(alloc), writer, files, from, target, faulty);
     punch_ending(alloc, faults, files, from, target.name, outcome)
 }

@@ -15,7 +15,7 @@ use crate::previews::{proofed, punched};
 use crate::readings::{listed, read_whole};
 use crate::reporting::out_of_memory;
 use crate::sheets::{on_desk, scripted};
-use crate::sources::{preview_of, reading_of, sources_of};
+use crate::sources::{galleys_of, preview_of, reading_of};
 use crate::texts::{checked, replaced};
 use crate::told::{Ending, ended};
 use clap::Error;
@@ -143,15 +143,16 @@ fn fulfilled<R: Read, W: Write, E: Write, F: Files + Explains>(
         Wish::Check { files: names } => checked(alloc, names, writer, faults, files),
         Wish::Proof {
             galley,
-            picture,
-            force,
+            drawings,
             sets,
         } => {
-            let asked = preview_of(galley, *picture, *force);
+            let asked = preview_of(galley, *drawings);
             proofed(alloc, &asked, sets, writer, faults, files)
         }
         Wish::Punch {
-            from,
+            feeds,
+            case,
+            wedge,
             target,
             force,
             faulty,
@@ -160,7 +161,7 @@ fn fulfilled<R: Read, W: Write, E: Write, F: Files + Explains>(
                 name: target,
                 force: *force,
             };
-            let from = sources_of(from);
+            let from = galleys_of(feeds, case, wedge);
             punched(alloc, &from, &to, *faulty, writer, faults, files)
         }
         Wish::Read {

@@ -1,26 +1,26 @@
 //! What galleys, ribbons and readings are made of, as the words ask for them.
 
-ghost use Rattle.std.specs.Prelude.{◌≡◌};
-ghost use Rattle.program_desk.specs.Wanted.{extent_of, form_of, preview_of, reading_of, source_of, sources_of};
+ghost use Rattle.std.specs.Prelude.{◌≡◌, ◌≤◌, length};
+ghost use Rattle.program_desk.specs.Wanted.{AreGalleys, extent_of, form_of, preview_of, reading_of, source_of};
 
 use crate::previews::Preview;
 use crate::readings::Reading;
 use feed_edit::Version;
 use program_words as words;
-use view_preview::{Form, Job, Manner, Source, Sources};
+use view_preview::{Form, Job, Manner, Source};
+use view_punch::Galleys;
 use view_ribbon::{Extent, Lines, Pitch};
 
-/// A stored feed, and the files of a case and a wedge.
-pub fn sources_of<'a>(from: &words::Sources<'a>) -> Sources<'a>
-    ensures { result ≡ sources_of from.now }
+/// Stored feeds, and the files of a case and a wedge.
+pub fn galleys_of<'a>(feeds: &'a [&'a str], case: &'a str, wedge: &'a str) -> Galleys<'a>
+    requires { 1 ≤ length feeds.now }
+    ensures { AreGalleys result feeds.now case.entry wedge.entry }
 {
-    Sources {
-        version: Version {
-            feed: from.feed,
-            until: None,
-        },
-        case: from.case,
-        wedge: from.wedge,
+    Galleys {
+        first: feeds[0],
+        others: &feeds[1..],
+        case,
+        wedge,
     }
 }
 
@@ -45,13 +45,9 @@ fn form_of(form: words::Form) -> Form
     }
 }
 
-/// A galley, with its picture.
-pub fn preview_of<'a>(
-    galley: &words::Galley<'a>,
-    picture: Option<&'a str>,
-    force: bool,
-) -> Preview<'a>
-    ensures { result ≡ preview_of galley.now picture.entry force }
+/// A galley, with the files that it is drawn in.
+pub fn preview_of<'a>(galley: &words::Galley<'a>, drawings: words::Drawings<'a>) -> Preview<'a>
+    ensures { result ≡ preview_of galley.now drawings.entry }
 {
     Preview {
         job: Job {
@@ -63,8 +59,7 @@ pub fn preview_of<'a>(
             form: form_of(galley.form),
             looks: galley.looks,
         },
-        picture,
-        force,
+        drawings,
     }
 }
 

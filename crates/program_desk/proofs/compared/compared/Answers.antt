@@ -1,5 +1,5 @@
 use Rattle.std.proofs.Common.{inl, inr}
-use Rattle.feed_compare.specs.Reporting.{IsReported, IsUnreported}
+use Rattle.feed_sites.specs.Reporting.{IsReported, IsUnreported}
 use Rattle.program_desk.proofs.Statuses.{no_of, yes_of}
 use Rattle.program_desk.proofs.compared.compared.Goals as goal
 

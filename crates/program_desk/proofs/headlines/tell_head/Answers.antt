@@ -65,3 +65,6 @@ returns-in-Unread g c = subst (λ cause. GoesOn c.args.told.is_whole c.tell_more
 
 pub returns-in-LongText : goal.returns-in-LongText
 returns-in-LongText g c = subst (λ cause. GoesOn c.args.told.is_whole c.tell_more-in-LongText.result.is_whole (g.E.Write.contents c.args.faults.now) (g.E.Write.contents c.tell_more-in-LongText.new.faults) (head_line cause)) (sym c.in-LongText.is) c.tell_more-in-LongText.ensures
+
+pub returns-in-LongRibbon : goal.returns-in-LongRibbon
+returns-in-LongRibbon g c = subst (λ cause. GoesOn c.args.told.is_whole c.tell_more-in-LongRibbon.result.is_whole (g.E.Write.contents c.args.faults.now) (g.E.Write.contents c.tell_more-in-LongRibbon.new.faults) (head_line cause)) (sym c.in-LongRibbon.is) c.tell_more-in-LongRibbon.ensures

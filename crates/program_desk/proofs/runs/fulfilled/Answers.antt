@@ -3,12 +3,12 @@ use Rattle.std.specs.Borrow.{Bor}
 use Rattle.clap.specs.Words.{Text}
 use Rattle.program_words.specs.Words.{texts_of}
 use Rattle.program_desk.specs.ByHand.{IsMergedAs, IsNotMerged}
-use Rattle.view_preview.specs.declared.sources.Sources.{Sources}
 use Rattle.program_desk.specs.Compared.{AreNotOne, AreOne}
 use Rattle.program_desk.specs.Readings.{IsNotReadWhole, IsReadWhole}
 use Rattle.program_desk.specs.declared.previews.Preview.{Preview}
 use Rattle.program_desk.specs.declared.readings.Reading.{Reading}
-use Rattle.program_desk.specs.Previews.{IsInFile, IsInNoFile, IsSeen, IsUnseen}
+use Rattle.program_desk.specs.Previews.{IsSeen, IsUnseen}
+use Rattle.program_desk.specs.Wanted.{AreGalleys}
 use Rattle.program_desk.specs.Runs.{Does, Stops, version_of}
 use Rattle.feed_edit.specs.declared.texts.Where.{Where}
 use Rattle.feed_edit.specs.Replacing.{IsReplaced}
@@ -84,12 +84,12 @@ returns-in-Proof-clause-stopped g c one =
 pub returns-in-Punch-clause-done : goal.returns-in-Punch-clause-done
 returns-in-Punch-clause-done g c zero =
     subst (λ w. Does w (g.F.Files.shelf c.args.files.now) (g.F.Files.shelf c.punched.new.files) (g.R.Read.remaining c.args.reader.now) (g.W.Write.contents c.args.writer.now) (g.W.Write.contents c.punched.new.writer)) (sym c.in-Punch.is)
-    (subst (λ (s : Sources). IsInFile s c.in-Punch.target.now c.in-Punch.force c.in-Punch.faulty (g.F.Files.shelf c.args.files.now) (g.F.Files.shelf c.punched.new.files) (g.W.Write.contents c.args.writer.now) (g.W.Write.contents c.punched.new.writer)) c.sources_of-from.ensures (c.punched.ensures.done zero))
+    (c.galleys_of-from.result, subst (λ (l : List (Bor Text)). AreGalleys c.galleys_of-from.result l c.in-Punch.case c.in-Punch.wedge) c.deref-in-Punch.ensures.value c.galleys_of-from.ensures, c.punched.ensures.done zero)
 
 pub returns-in-Punch-clause-stopped : goal.returns-in-Punch-clause-stopped
 returns-in-Punch-clause-stopped g c one =
     subst (λ w. Stops w (g.F.Files.shelf c.args.files.now) (g.F.Files.shelf c.punched.new.files) (g.R.Read.remaining c.args.reader.now) (g.W.Write.contents c.args.writer.now) (g.W.Write.contents c.punched.new.writer) c.punched.result.told.is_whole (g.E.Write.contents c.args.faults.now) (g.E.Write.contents c.punched.new.faults)) (sym c.in-Punch.is)
-    (subst (λ (s : Sources). IsInNoFile s c.in-Punch.target c.in-Punch.force c.in-Punch.faulty (g.F.Files.shelf c.args.files.now) (g.F.Files.shelf c.punched.new.files) (g.W.Write.contents c.args.writer.now) (g.W.Write.contents c.punched.new.writer) c.punched.result.told.is_whole (g.E.Write.contents c.args.faults.now) (g.E.Write.contents c.punched.new.faults)) c.sources_of-from.ensures (c.punched.ensures.stopped one))
+    (c.galleys_of-from.result, subst (λ (l : List (Bor Text)). AreGalleys c.galleys_of-from.result l c.in-Punch.case c.in-Punch.wedge) c.deref-in-Punch.ensures.value c.galleys_of-from.ensures, c.punched.ensures.stopped one)
 
 pub returns-in-Read-clause-done : goal.returns-in-Read-clause-done
 returns-in-Read-clause-done g c zero =
