@@ -1,4 +1,5 @@
-//! The tests of view_picture.
+//! The tests of view_picture and view_pages.
+mod documents;
 mod feeds;
 mod galleys;
 mod pictures;

@@ -3,8 +3,18 @@
 use feed_files::{FileRefusal, Kind, OutputFault, kind_of};
 use std::alloc::{AllocError, Global};
 
+/// What a document begins with.
+const DOCUMENT: &[u8] =
+    b"<!DOCTYPE html>\n<html xmlns=\"http://www.w3.org/1999/xhtml\" lang=\"en\">\n<head>\n\
+<meta charset=\"utf-8\"/>\n<meta name=\"generator\" content=\"copydesk\"/>\n<title>";
+
+/// Another page in HTML.
+const PAGE: &[u8] =
+    b"<!DOCTYPE html>\n<html xmlns=\"http://www.w3.org/1999/xhtml\" lang=\"en\">\n<head>\n\
+<meta charset=\"utf-8\"/>\n<meta name=\"generator\" content=\"another\"/>\n<title>";
+
 /// Bytes, and what they are.
-const KINDS: [(&[u8], Option<Kind>); 14] = [
+const KINDS: [(&[u8], Option<Kind>); 17] = [
     (b"", None),
     (b"M", Some(Kind::Other)),
     (b"MRB", Some(Kind::Other)),
@@ -19,6 +29,9 @@ const KINDS: [(&[u8], Option<Kind>); 14] = [
     (b"<svg xmlns=\"", Some(Kind::Picture)),
     (b" <svg", Some(Kind::Other)),
     (b"case = 1\n", Some(Kind::Other)),
+    (DOCUMENT, Some(Kind::Document)),
+    (PAGE, Some(Kind::Other)),
+    (b"<!DOCTYPE html>\n", Some(Kind::Other)),
 ];
 
 #[test]
@@ -28,10 +41,11 @@ fn kinds_by_first_bytes(rt: HostRuntime) {
     }
 }
 
-const WORDS: [(Kind, &str); 5] = [
+const WORDS: [(Kind, &str); 6] = [
     (Kind::Feed, "a feed stands there"),
     (Kind::Ribbon, "a ribbon stands there"),
     (Kind::Picture, "a picture stands there"),
+    (Kind::Document, "a document stands there"),
     (Kind::Other, "another file stands there"),
     (
         Kind::Large,

@@ -35,7 +35,7 @@ pub fn case_text(alloc: Global) -> Result<String, Fail> {
         "'','',''",
         "'','',''",
         "'','',''",
-        "'m','',''",
+        "'m','—',''",
         "'M','s:M','&'",
     ] {
         text.push_str("[")?;

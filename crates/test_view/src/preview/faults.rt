@@ -1,17 +1,17 @@
 //! A punch of a copy that has faults.
 
 use crate::preview::punching::{LINE, RIBBON, is_of_memory};
-use crate::preview::rooms::{OLD, TARGET, memory, rooms, sources};
+use crate::preview::rooms::{OLD, TARGET, galleys, memory, rooms, stop};
 use feed_files::trial::{AtEnd, TrialWriter};
 use linked_list_allocator::LocalHeap;
 use script_answers::Memory;
 use std::alloc::Global;
 use std::test::Fail;
 use view_preview::PreviewFault;
-use view_punch::punch_feed;
+use view_punch::{Stop, punch_feeds};
 
 /// The line of the faults of both feeds: a delete whose target is not held, and one whose target is a setting.
-const COPY_LINE: &[u8] = b"faults waiting 40.1, void 41.1\n";
+pub const COPY_LINE: &[u8] = b"faults waiting 40.1, void 41.1\n";
 
 /// Punches a feed: how it ends, where this is written, and where the target has these bytes afterwards.
 fn punched(
@@ -23,18 +23,18 @@ fn punched(
 ) -> Result<Result<(), PreviewFault>, Fail> {
     let mut files = rooms(alloc, 0)?;
     let mut written = Vec::new(alloc);
-    let ended = punch_feed(
+    let ended = punch_feeds(
         memory(alloc),
         &mut written,
         &mut files,
-        &sources(feed, "c", "w"),
+        &galleys(feed, "c", "w"),
         &TARGET,
         faulty,
     );
     if written.as_slice() != line || !files.holds("a.ribbon", target) {
         return Err(Fail::new("another line or target"));
     }
-    Ok(ended)
+    Ok(ended.map_err(|stop| stop.why))
 }
 
 #[test]
@@ -67,15 +67,15 @@ fn faults_of_a_copy_are_let_through(rt: HostRuntime) -> Result<(), Fail> {
 fn closed_output_of_copy_faults(rt: HostRuntime) -> Result<(), Fail> {
     let mut files = rooms(rt.alloc(), 0)?;
     let mut writer = TrialWriter::new(rt.alloc()).with_room(5, AtEnd::Fails);
-    let ended = punch_feed(
+    let ended = punch_feeds(
         memory(rt.alloc()),
         &mut writer,
         &mut files,
-        &sources("faulty.feed", "c", "w"),
+        &galleys("faulty.feed", "c", "w"),
         &TARGET,
         false,
     );
-    assert_eq!(rt; ended, Err(PreviewFault::Write));
+    assert_eq!(rt; ended, Err(stop(PreviewFault::Write)));
     assert!(rt; COPY_LINE.starts_with(writer.written()));
     assert!(rt; files.holds("a.ribbon", OLD));
     Ok(())
@@ -95,11 +95,11 @@ fn is_refused(alloc: Global, cut: usize) -> Result<bool, Fail> {
         own: &heap,
         global: alloc,
     };
-    let ended = punch_feed(
+    let ended = punch_feeds(
         cut_memory,
         &mut written,
         &mut files,
-        &sources("faulty.feed", "c", "w"),
+        &galleys("faulty.feed", "c", "w"),
         &TARGET,
         false,
     );
@@ -108,8 +108,13 @@ fn is_refused(alloc: Global, cut: usize) -> Result<bool, Fail> {
         return Err(Fail::new("another target"));
     }
     match ended {
-        Err(PreviewFault::CopyFaults) if written.as_slice() == COPY_LINE => Ok(false),
-        Err(fault) if is_of_memory(fault) && written.is_empty() => Ok(true),
+        Err(
+            Stop {
+                feed: 0,
+                why: PreviewFault::CopyFaults,
+            },
+        ) if written.as_slice() == COPY_LINE => Ok(false),
+        Err(stop) if is_of_memory(stop.why) && written.is_empty() => Ok(true),
         _ => Err(Fail::new("another end")),
     }
 }

@@ -1,4 +1,4 @@
-use crate::preview::rooms::{OLD, TARGET, memory, rooms, sources};
+use crate::preview::rooms::{OLD, TARGET, galleys, memory, rooms, stop};
 use feed_edit::FeedTrouble;
 use feed_files::FileRefusal;
 use feed_files::trial::{AtEnd, TrialFiles, TrialWriter};
@@ -8,7 +8,7 @@ use std::alloc::Global;
 use std::test::Fail;
 use view_preview::PreviewFault;
 use view_proof::OtherNumber;
-use view_punch::punch_feed;
+use view_punch::punch_feeds;
 
 /// The ribbon of one empty paragraph: the head, an added space, nine fills and one, and the wedges at 8 and 7.
 pub const RIBBON: &[u8] =
@@ -26,18 +26,18 @@ fn punched(
 ) -> Result<(Vec<u8, Global>, Result<(), PreviewFault>), Fail> {
     let (feed, case, wedge) = names;
     let mut written = Vec::new(alloc);
-    let ended = punch_feed(
+    let ended = punch_feeds(
         memory(alloc),
         &mut written,
         files,
-        &sources(feed, case, wedge),
+        &galleys(feed, case, wedge),
         &TARGET,
         false,
     );
     if !files.holds("a.ribbon", target) {
         return Err(Fail::new("the target has other bytes"));
     }
-    Ok((written, ended))
+    Ok((written, ended.map_err(|stop| stop.why)))
 }
 
 /// Why a punch ends, with nothing written and the target as it was.
@@ -141,15 +141,15 @@ fn files_that_fail_under_a_punch(rt: HostRuntime) -> Result<(), Fail> {
 fn closed_output_of_a_punch(rt: HostRuntime) -> Result<(), Fail> {
     let mut files = rooms(rt.alloc(), 0)?;
     let mut writer = TrialWriter::new(rt.alloc()).with_room(5, AtEnd::TakesNone);
-    let ended = punch_feed(
+    let ended = punch_feeds(
         memory(rt.alloc()),
         &mut writer,
         &mut files,
-        &sources("loose.feed", "c", "w"),
+        &galleys("loose.feed", "c", "w"),
         &TARGET,
         false,
     );
-    assert_eq!(rt; ended, Err(PreviewFault::Write));
+    assert_eq!(rt; ended, Err(stop(PreviewFault::Write)));
     assert!(rt; LINE.starts_with(writer.written()));
     assert!(rt; files.holds("a.ribbon", OLD));
     Ok(())
@@ -180,17 +180,17 @@ fn is_refused(alloc: Global, cut: usize) -> Result<bool, Fail> {
         own: &heap,
         global: alloc,
     };
-    let ended = punch_feed(
+    let ended = punch_feeds(
         cut_memory,
         &mut written,
         &mut files,
-        &sources("set.feed", "c", "w"),
+        &galleys("set.feed", "c", "w"),
         &TARGET,
         false,
     );
     let refused = match ended {
         Ok(()) => false,
-        Err(fault) if is_of_memory(fault) => true,
+        Err(stop) if is_of_memory(stop.why) => true,
         Err(_) => return Err(Fail::new("another fault")),
     };
     drop(ballast);

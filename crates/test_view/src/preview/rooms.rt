@@ -6,7 +6,8 @@ use feed_files::Target;
 use feed_files::trial::TrialFiles;
 use script_answers::Memory;
 use std::alloc::{AllocError, Global};
-use view_preview::{Job, Source, Sources};
+use view_preview::{Job, PreviewFault, Source};
+use view_punch::{Galleys, Stop};
 
 /// What stands under the target before a ribbon is stored there.
 pub const OLD: &[u8] = b"MRB1 old";
@@ -153,13 +154,19 @@ pub fn rooms(alloc: Global, k: u64) -> Result<TrialFiles<Global>, AllocError> {
     Ok(files)
 }
 
-/// A feed as it is, a case and a wedge.
-pub fn sources<'a>(feed: &'a str, case: &'a str, wedge: &'a str) -> Sources<'a> {
-    Sources {
-        version: Version::whole(feed),
+/// A feed alone, for a punch.
+pub fn galleys<'a>(feed: &'a str, case: &'a str, wedge: &'a str) -> Galleys<'a> {
+    Galleys {
+        first: feed,
+        others: &[],
         case,
         wedge,
     }
+}
+
+/// The first feed stops a punch for this fault.
+pub fn stop(why: PreviewFault) -> Stop {
+    Stop { feed: 0, why }
 }
 
 /// The same for a proof.

@@ -1,12 +1,12 @@
 //! What stands under the target of a punch.
 
 use crate::preview::punching::RIBBON;
-use crate::preview::rooms::{memory, rooms, sources};
+use crate::preview::rooms::{galleys, memory, rooms};
 use feed_files::{FileRefusal, Kind, Target};
 use std::alloc::Global;
 use std::test::Fail;
 use view_preview::PreviewFault;
-use view_punch::punch_feed;
+use view_punch::punch_feeds;
 
 /// Punches over what stands under a name, of which the k-th call fails: the ribbon stands there afterwards, or what
 /// did.
@@ -22,11 +22,11 @@ fn punched_over(
     }
     let mut written = Vec::new(alloc);
     let target = Target { name: "t", force };
-    let ended = punch_feed(
+    let ended = punch_feeds(
         memory(alloc),
         &mut written,
         &mut files,
-        &sources("set.feed", "c", "w"),
+        &galleys("set.feed", "c", "w"),
         &target,
         false,
     );
@@ -38,7 +38,7 @@ fn punched_over(
     if !kept || !written.is_empty() {
         return Err(Fail::new("another target"));
     }
-    Ok(ended)
+    Ok(ended.map_err(|stop| stop.why))
 }
 
 /// Bytes that are no ribbon, and their kinds.

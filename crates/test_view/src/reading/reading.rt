@@ -246,6 +246,47 @@ fn some_lines_are_read(rt: HostRuntime) -> Result<(), Fail> {
     Ok(())
 }
 
+/// The head of two ribbons of these lines with one without lines between them.
+const THREE_HEAD: &str = "RIBBON 4 lines, 21 rows, longest 18.0 points\n\
+\n  line    c/f     points   short  text\n";
+
+/// The head of one behind one without lines.
+const SECOND_HEAD: &str = "RIBBON 2 lines, 11 rows, longest 18.0 points\n\
+\n  line    c/f     points   short  text\n";
+
+const MARK_ONE: &str = "  -- end of galley 1 --\n";
+
+const MARK_TWO: &str = "  -- end of galley 2 --\n";
+
+const LINE_THREE: &str = "     3    4/10      15.9     2.1  n t\n";
+
+const LINE_FOUR: &str = "     4    3/8       18.0     0.0  a·\n";
+
+/// A mark goes with the line before it, or with the first.
+#[test]
+fn marks_ends_of_galleys(rt: HostRuntime) -> Result<(), Fail> {
+    let alloc = rt.alloc();
+    let all = [
+        THREE_HEAD, LINE_ONE, LINE_TWO, MARK_ONE, MARK_TWO, LINE_THREE, LINE_FOUR,
+    ];
+    assert!(rt; is_read(alloc, "three", ALL, &all)?);
+    let two = [THREE_HEAD, LINE_TWO, MARK_ONE, MARK_TWO];
+    assert!(rt; is_read(alloc, "three", lines(2, 2), &two)?);
+    assert!(rt; is_read(alloc, "three", lines(3, 3), &[THREE_HEAD, LINE_THREE])?);
+    let second = [SECOND_HEAD, MARK_ONE, LINE_ONE, LINE_TWO];
+    assert!(rt; is_read(alloc, "second", ALL, &second)?);
+    assert!(rt;
+        is_read(
+            alloc,
+            "second",
+            lines(1, 1),
+            &[SECOND_HEAD, MARK_ONE, LINE_ONE]
+        )?
+    );
+    assert!(rt; is_read(alloc, "second", lines(2, 2), &[SECOND_HEAD, LINE_TWO])?);
+    Ok(())
+}
+
 /// An eighth of an inch.
 const EIGHTH: Pitch = Pitch { over: 1, under: 8 };
 

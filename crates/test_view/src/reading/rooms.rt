@@ -36,6 +36,21 @@ const TWINS: &[u8] =
 /// The head; a space, and the wedges at 1 and 1.
 const SPACE: &[u8] = b"MRB1\0\0\0\x04\0\0\x02\x06\x01\x01\0\x01\0\x01\0\x02\0\x01\0\x06";
 
+/// A ribbon without lines.
+const HEAD: &[u8] = b"MRB1\0\0\0\x01\0\0\x02\x06";
+
+/// The rows of ribbons one after the other, of which there are so many.
+fn joined(alloc: Global, rows: u8, parts: &[&[u8]]) -> Result<Vec<u8, Global>, AllocError> {
+    let mut out = Vec::new(alloc);
+    out.extend_from_slice(&[b'M', b'R', b'B', b'1', 0, 0, 0, rows])?;
+    for part in parts {
+        for byte in part.iter().skip(8) {
+            out.push(*byte)?;
+        }
+    }
+    Ok(out)
+}
+
 /// Files of which the k-th call fails: ribbons, bytes that are none, a case and wedges.
 pub fn rooms(alloc: Global, k: u64) -> Result<TrialFiles<Global>, AllocError> {
     let mut files = TrialFiles::new(alloc).failing_at_call(k);
@@ -47,7 +62,9 @@ pub fn rooms(alloc: Global, k: u64) -> Result<TrialFiles<Global>, AllocError> {
     files.put("twins", TWINS)?;
     files.put("\x1b.rib", LINES)?;
     files.put("space", SPACE)?;
-    files.put("head", b"MRB1\0\0\0\x01\0\0\x02\x06")?;
+    files.put("head", HEAD)?;
+    files.put("three", &joined(alloc, 21, &[LINES, HEAD, LINES])?)?;
+    files.put("second", &joined(alloc, 11, &[HEAD, LINES])?)?;
     files.put("feed", b"MFD2\0\0\0\0")?;
     files.put("cut", b"MRB1\0\0\0\x02\0\0\x02\x06")?;
     files.put("two", b"MRB1\0\0\0\x02\0\0\x02\x06\x60\0\x02\0")?;
