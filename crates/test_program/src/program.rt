@@ -167,6 +167,11 @@ fn refused_words(rt: HostRuntime) {
         "check",
         "diff a.feed",
         "punch a.feed --case c --wedge w",
+        "punch --case c --wedge w -o a.rib",
+        "proof a.feed --case c --wedge w --page a4",
+        "proof a.feed --case c --wedge w --html a.html --page 199",
+        "proof a.feed --case c --wedge w --html a.html --page 14401",
+        "proof a.feed --case c --wedge w --svg a.svg --page A4",
     ] {
         assert!(rt; refuses(rt.alloc(), line), "{line}");
     }
@@ -565,7 +570,7 @@ fn galley_is_proofed(rt: HostRuntime) -> Result<(), Fail> {
 }
 
 /// Whether a file is kept that begins so.
-fn begins(files: &TrialFiles<Global>, name: &str, first: &[u8]) -> bool {
+pub fn begins(files: &TrialFiles<Global>, name: &str, first: &[u8]) -> bool {
     match files.bytes_of(name) {
         Some(kept) => kept.starts_with(first),
         None => false,
