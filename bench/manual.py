@@ -17,7 +17,7 @@ PLACES = ((NAME + ".1", "~/.local/share/man/man1; or read it by `man -l`"),
           (NAME + ".bash", "~/.local/share/bash-completion/completions/" + NAME),
           ("_" + NAME, "a folder of zsh's $fpath"), (NAME + ".fish", "~/.config/fish/completions"))
 # What the value of an option is, where it is no file.
-NO_FILE = ("SITE", "SET")
+NO_FILE = ("SITE", "SET", "PAGE")
 
 
 def told(program, *words):

@@ -89,7 +89,10 @@ JOBS = (
     Job("proof --text letter.txt --warn " + SET + METAL, None, "", 0, "GALLEY "),
     Job("proof --text letter.txt --format gcc --warn --svg text.svg " + SET + METAL, "text.svg", "", 0, "letter.txt:1:4: warning: two spaces\n"),
     Job("proof --text letter.txt --plain " + SET + "--wedge wedge5.toml", None, "", 1, "GALLEY "),
+    Job("proof hand.feed --html galley.html " + METAL, "galley.html", "", 0, "GALLEY "),
+    Job("proof hand.feed --set measure=150 --html made.html --page 300 " + METAL, "made.html", "", 1, "GALLEY "),
     Job("punch hand.feed -o new.rib " + METAL, "new.rib"),
+    Job("punch hand.feed other.feed hand.feed -o new.rib " + METAL, "new.rib"),
     Job("punch other.feed -o made.rib " + METAL, "made.rib"),
     Job("read made.rib " + METAL, None, "", 0, "RIBBON "),
     Job("read made.rib --svg holes.svg " + METAL, "holes.svg", "", 0, "RIBBON "),
@@ -238,7 +241,8 @@ class Bench:
 
 
 def base(bench):
-    """The files on which all runs go: feeds, with how far their sites have come, a link, a ribbon, a picture, and the metal."""
+    """The files on which all runs go: feeds, with how far their sites have come, a link, a ribbon, a picture, a document, and the
+    metal."""
     image = {name: get(os.path.join(EXAMPLES, name)) for name in ("case12.toml", "wedge5.toml")}
     image[ROOM] = b'site = 1\ncase = "case12.toml"\n'
     lay(bench.room, image)
@@ -266,7 +270,7 @@ def base(bench):
     put(older, before)
     made("punch hand.feed -o made.rib " + METAL)
     made("punch other.feed -o other.rib " + METAL)
-    made("proof hand.feed --svg made.svg " + METAL)
+    made("proof hand.feed --svg made.svg --html made.html " + METAL)
     put(os.path.join(bench.room, "letter.txt"), TEXT.replace(" ", "  ", 1).encode())
     return stored(seen(bench.room))
 

@@ -1,5 +1,5 @@
 #!/usr/bin/env python3
-"""Two desks on one feed, and what else a stored feed meets: desks.py PROGRAM.
+"""Two desks on one feed, and what else a stored feed meets: desks.py PROGRAM [--minutes N].
 
 Pairs of runs on one feed end together, or one of them is killed at a random moment, on a feed of a few operations and on
 one of 30,000: a run with status 0 has stored its edit, the feed is whole and is what the runs with status 0 made of it in
@@ -7,8 +7,10 @@ some order, and every run that was refused says so and answers nothing. The same
 one: a feed that is open is refused under every name that leads to it; links, modes and what stands beside a feed, which says
 how far its sites have come and never more than the feed holds; what
 cannot be stored is refused before the first answer; an unchanged feed is not written; the order of sync and rename, as
-a preloaded library sees it, of a feed that is renewed or renumbered too; and the second line on standard error.
+a preloaded library sees it, of a feed that is renewed or renumbered too; and the second line on standard error. With --minutes
+two to four runs at a time, of which one is killed in every second trial, for so long, and nothing else.
 """
+import functools
 import os
 import pty
 import random
@@ -163,6 +165,19 @@ def pairs(program, folder):
                     faults.append("%s, %d operations: %s" % (kind, count, fault))
             counts[kind] = counts.get(kind, 0) + rounds
     return faults, ", ".join("%d %s" % (number, kind) for kind, number in counts.items())
+
+
+def long_run(program, folder, minutes):
+    """Two to four runs at a time for so many minutes: what is wrong, and how many trials there were."""
+    faults, trials, killed, end = [], 0, 0, time.time() + 60 * minutes
+    while time.time() < end and len(faults) < 10:
+        count, runs = random.choice((3, 3, 3, LARGE)), random.choice((2, 3, 4))
+        chance = random.uniform(0, 0.05 if count == 3 else 0.3) if random.random() < 0.5 else None
+        fault = trial(program, folder, count, runs, chance)
+        if fault:
+            faults.append("%d runs, %d operations, trial %d: %s" % (runs, count, trials, fault))
+        trials, killed = trials + 1, killed + (chance is not None)
+    return faults, "%d trials in %g minutes, %d with a kill" % (trials, minutes, killed)
 
 
 def expect(faults, name, got, want):
@@ -370,7 +385,11 @@ def words(program, folder):
 def main():
     program, failed = os.path.abspath(sys.argv[1]), False
     random.seed(SEED)
-    for part in (pairs, open_feeds, modes, beside, unstored, synced, words):
+    parts = (pairs, open_feeds, modes, beside, unstored, synced, words)
+    if sys.argv[2:3] == ["--minutes"]:
+        minutes = float(sys.argv[3])
+        parts = (functools.wraps(long_run)(lambda program, folder: long_run(program, folder, minutes)),)
+    for part in parts:
         begin = time.time()
         with tempfile.TemporaryDirectory() as folder:
             faults = part(program, folder)

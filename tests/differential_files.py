@@ -1,6 +1,6 @@
 """Random commands on files, for differential.py: merges with and without forks, imports around their limits, replacements,
-renewals, renumberings, what rooms made, logs, texts that are looked for, and ribbons and pictures that would take the place of
-other files; and merges of rooms that correct one text, with what they leave open. Those on texts and ribbons are in
+renewals, renumberings, what rooms made, logs, texts that are looked for, ribbons of several feeds, and ribbons, pictures and
+documents that would take the place of other files; and merges of rooms that correct one text, with what they leave open. Those on texts and ribbons are in
 differential_notes.py."""
 import os
 import random
@@ -12,6 +12,7 @@ import differential_notes
 import fuzz_asks
 import oracle
 import oracle_log
+import oracle_pages
 import oracle_readings
 import oracle_room
 import oracle_runs
@@ -22,6 +23,8 @@ JOB = [b"set 1 measure 120", b"set 1 tight 38", b"set 1 loose 150", b"set 1 case
 WORDS = ["nn", "mtn", "a", "n.", "Mnt", "tnmn", "nnnnn"]
 STANDS = [None, None, b"", b"MRB1", b"MRB1\0\0\0\0", b"<svg></svg>", b"<svg", b"<sv", b"MR", b"MRB2\0\0\0\0", b"MR\0\0\0\0",
           b"MFD1", b"MFD2", b"MFD3", b"MF", b"<svG>", b"\n<svg>", b" MRB1", b"case = 1\n", b"\0"]
+STANDS += [oracle_pages.BEGIN.encode() + more for more in (b"", b"", b"<title>", b"\0")]
+STANDS += [oracle_pages.BEGIN.encode()[:-1], b"<!DOCTYPE html>\n<html>\n", b"\n" + oracle_pages.BEGIN.encode()]
 
 
 FLAWS = ["site = 0", "site = 65536", "site = \"1\"", "case = 12", "wedge = \"\"", "sit = 1", "set = 1", "[set]\nmeasure = 11", "[set]\nloose = 240\ntight = 241",
@@ -45,7 +48,7 @@ def options_of(words):
 class Asked(differential_notes.Notes):
     """A random command: its words, what it reads from standard input, and the files that are there."""
 
-    often = {"merge": 3, "diff": 1, "renumber": 4, "import": 3, "replace": 3, "find": 2, "punch": 2, "proof": 3, "text": 4, "read": 3,
+    often = {"merge": 3, "diff": 1, "renumber": 4, "import": 3, "replace": 3, "find": 2, "punch": 3, "proof": 3, "text": 4, "read": 3,
              "compare": 3, "renew": 1, "rooms": 1, "log": 2, "export": 1, "sorts": 1}
 
     def __init__(self, seed, k):
@@ -388,16 +391,16 @@ class Asked(differential_notes.Notes):
             world.insert(1, 0, copy)
         self.files["one"] = oracle.runs_feed(self.edits(world.sites[1], 2, self.pick.choice([0, 0, 1])))
 
-    def stands(self, *sources):
+    def stands(self, *sources, name="target"):
         """A target: nothing, one of the files that it is made of, or something else."""
         if self.pick.random() < 0.08:
             return self.pick.choice(sources)
         data = self.pick.choice(STANDS)
         if data is not None:
-            self.files["target"] = data
-        return "target"
+            self.files[name] = data
+        return name
 
-    def job(self):
+    def job(self, name="one", often=0.35):
         """A feed of a job, whose copy may have faults and whose settings may have some."""
         world = reported.world_of(1, set())
         for line in JOB + [b"insert 1 0 r\"nnn mmm nnn. \""]:
@@ -405,17 +408,37 @@ class Asked(differential_notes.Notes):
         held = world.sites[1]
         if self.pick.random() < 0.3:
             held = self.edits(held, 2, 2)
-        if self.pick.random() < 0.35:
+        if self.pick.random() < often:
             fork, waits = ("insert", (6, 1), oracle.HEAD, (0, 110)), ("delete", (30, 2), (29, 2))
             twice = {("set", (40, 3), "tight", 40), ("set", (40, 3), "tight", 41)}
             held = held | self.pick.choice([{fork}, {waits}, {("set", (1, 1), "loose", 150)}, twice, self.forged(2)])
-        self.files["one"] = oracle.runs_feed(held)
-        return ["one", "c", self.pick.choice(["w"] * 9 + ["w6"])]
+        self.files[name] = oracle.runs_feed(held)
+        return [name, "c", self.pick.choice(["w"] * 9 + ["w6"])]
+
+    def jobs(self):
+        """Feeds of one job or of several, each with settings of its own; one may be asked for twice, be damaged, or not be there."""
+        pick, some = self.pick, self.pick.choice([["one"], ["one"], ["one", "two"], ["one", "two", "three"]])
+        *_, case, wedge = [self.job(name, 0.35 / len(some)) for name in some][-1]
+        for name in some:
+            if pick.random() < 0.3:
+                world = reported.world_of(4, reported.held_in(self.files[name]))
+                world.answer(b"set 4 measure %d" % pick.choice([60, 75, 120, 144]))
+                if pick.random() < 0.3:  # a galley without a line
+                    for _ in range(len(world.meaning(4).shown)):
+                        world.answer(b"delete 4 0")
+                self.files[name] = oracle.runs_feed(world.sites[4])
+        if len(some) > 1 and pick.random() < 0.08:
+            name = pick.choice(some)
+            self.files[name] = pick.choice([b"", b"MFD3", self.files[name][:-1]])
+        feeds = some + ([pick.choice(some)] if pick.random() < 0.2 else []) + (["none"] if pick.random() < 0.1 else [])
+        if len(some) > 1:
+            pick.shuffle(feeds)
+        return [*feeds, case if pick.random() < (0.5 if feeds[0] == "none" else 0.92) else "w", wedge]
 
     def of_punch(self):
-        job, force, faulty = self.job(), self.pick.random() < 0.25, self.pick.random() < 0.4
+        job, force, faulty = self.jobs(), self.pick.random() < 0.25, self.pick.random() < 0.4
         to = self.stands(*job)
-        words = ["punch", "one", "--case", job[1], "--wedge", job[2], "-o", to]
+        words = ["punch", *job[:-2], "--case", job[-2], "--wedge", job[-1], "-o", to]
         words += ["--force"] * force + ["--faulty"] * faulty
         return oracle_runs.punch, [*job, to], words, {"force": force, "faulty": faulty}
 
@@ -458,7 +481,7 @@ class Asked(differential_notes.Notes):
             return wrong
         if kind in ("import", "replace") and not due[0]:
             return self.differs_in_edits(left, out.decode())
-        if kind in ("proof", "read"):
+        if kind == "read":
             left = {name: self.picture_in(data) if data != self.files.get(name) else data for name, data in left.items()}
         if left != due[3]:
             return "%s: it has left %r, due %r" % (self.name, left, due[3])
@@ -467,8 +490,8 @@ class Asked(differential_notes.Notes):
         return None
 
     def picture_in(self, data):
-        """Of a picture its beginning, and of that of a ribbon also its title and the places of its rows."""
-        if self.command is not oracle_runs.read or data[:4] != b"<svg":
+        """Of a picture of a ribbon its beginning, its title and the places of its rows."""
+        if data[:4] != b"<svg":
             return data[:4]
         return data[:4] + ("%s %s" % fuzz_asks.rows_drawn(data)[:2]).encode()
 
@@ -518,6 +541,21 @@ class Noted(Asked):
     """Commands on texts and ribbons alone."""
 
     often = {"text": 4, "proof": 3, "read": 3, "compare": 3}
+
+
+class Paged(Asked):
+    """Proofs with documents, ribbons of several feeds, and readings of ribbons."""
+
+    often, heights = {"text": 4, "proof": 5, "punch": 4, "read": 3}, [*differential_notes.HEIGHTS, *["200"] * 7]
+    pictures, documents, numbered = 0.5, 0.8, 0.4
+
+    def some_text(self):
+        """A text, of which there may be several after one another, so that a page may not have room for it."""
+        return super().some_text() * self.pick.choice([1, 1, 3, 6])
+
+    def stands(self, *sources, name="target"):
+        """A target, which has mostly no file."""
+        return name if self.pick.random() < 0.7 else super().stands(*sources, name=name)
 
 
 TEXTS = ["agian", "teh", "recieve", "sheetss", "thee", "sheets", "galleys", "the", "of", "a", "noon.", "word", "Monday", "Friday", "a_b", "^", "\\",

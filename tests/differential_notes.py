@@ -1,5 +1,6 @@
 """Random commands of differential_files.py on texts and ribbons: proofs of texts and of feeds, as galleys and for editors, with
-second looks; ribbons that are read in part or by their figures, and that are compared by what they cast."""
+second looks, with pictures and documents; ribbons that are read in part or by their figures, and that are compared by what they
+cast."""
 import differential
 import oracle
 import oracle_runs
@@ -8,16 +9,17 @@ import reported_copy
 
 MARKED = [list(row) for row in differential.ROWS]
 for at_row, at_column, at_text in [(1, 0, "-"), (1, 1, ","), (1, 2, "'"), (1, 3, '\\"'), (4, 3, "_"), (4, 4, "\\\\"), (4, 5, "^"), (0, 1, "i:-"), (0, 2, "i:."),
-                                   (0, 3, "s:-"), (0, 4, "s:,"), (7, 1, "i:n"), (7, 2, "s:n"), (7, 3, "\u00e9"), (1, 4, "i:'")]:
+                                   (0, 3, "s:-"), (0, 4, "s:,"), (7, 1, "i:n"), (7, 2, "s:n"), (7, 3, "\u00e9"), (1, 4, "i:'"), (10, 0, "\u2014"), (10, 1, "i:\u2013")]:
     MARKED[at_row][at_column] = at_text
 WORDS = ["nn", "mtn", "a", "n.", "Mnt", "tnmn", "nnnnn", "n", "a-", "nt-", "-", "--", "nn,", "'n", "\"a\"", "_a_", "^M^", "_a-_", "^M-^", "_n_", "n_a_", "_a,_",
-         "_'_", "\\_", "n\\^", "\\\\", "\u00e9", "t\u00e9n", "z", "_z_", "\u20ac", "n\u202en", "\U0001d510", "e\u0301"]
+         "_'_", "\\_", "n\\^", "\\\\", "\u00e9", "t\u00e9n", "z", "_z_", "\u20ac", "n\u202en", "\U0001d510", "e\u0301", "n&n", "<n>", "n\ufffe", "n\u2014n", "\u2014\u2014", "_a\u2013_", "n\u2015"]
 BETWEEN = [" "] * 12 + ["  ", "   ", "\n", "\r\n", " \n", "\n ", "\n\n", "  \n", "\n.", " .", " ,", " _._ ", " ^,^", " '"]
 ALIKE = [["n", "_n_"], ["a-", "_a-_"], ["a", "_a_", "a"]]
 BROKEN = ["_", "^", "\\", "\\n", "\r", "\t", "_n\n_", "_n^a^_", "\x85", "\x7f"]
 PITCHES = [(1, 8), (1, 8), (1, 10), (2, 16), (1, 7), (3, 7), (7, 3), (1, 1), (1, 3), (65535, 65535), (1, 65535), (65535, 1), (9, 80)]
 ENDS = [1, 1, 2, 2, 3, 4, 5, 9, 10, 400, 65536, 4294967295]
 BLANK = [(14, 15), (0, 5), (6, 1)]
+HEIGHTS = {"a4": 842, "letter": 792, "200": 200, "201": 201, "230": 230, "0000000300": 300, "842": 842, "14400": 14400}
 NAMES = ["other"] * 6 + ["o\u202eb.rib", "o\x1b[1m.rib", "a b", "o:7:1: x"]
 
 
@@ -34,7 +36,8 @@ CELLS = {fill: cells_of(fill) for fill in FILLS}
 class Notes:
     """Of a class with a random choice, and files, and jobs: see differential_files.py."""
 
-    narrow = False
+    narrow, heights = False, list(HEIGHTS)
+    pictures, documents, numbered = 0.35, 0.45, 0.1  # how often a command stores these, and finds files in their places
 
     def metal(self, lacking=8):
         """A case with the marks, or of so many in a hundred one that lacks them, and a wedge; each may be another file."""
@@ -89,20 +92,39 @@ class Notes:
 
     def picture(self, *sources):
         """A picture that a command stores, mostly none."""
-        if self.pick.random() < 0.65:
+        if self.pick.random() >= self.pictures:
             return None, [], {}
         to, force = self.stands(*sources), self.pick.random() < 0.25
         return to, ["--svg", to] + ["--force"] * force, {"force": force}
 
+    def drawings(self, *sources):
+        """A picture and a document that a proof stores, mostly not both, and the height of a page; their targets may be one. Something
+        may be where a page is stored."""
+        to, words, flags = self.picture(*sources)
+        page = None
+        if self.pick.random() < self.documents:
+            page = self.stands(*sources, name="page") if to is None or self.pick.random() < 0.92 else to
+            words = words + ["--html", page]
+        if (to or page) is not None and self.pick.random() < 0.7:
+            height = self.pick.choice(self.heights)
+            words, flags["height"] = words + ["--page", height], HEIGHTS[height]
+            for name in ("target.1", "target.2", "target.3"):
+                if to is not None and self.pick.random() < self.numbered:
+                    self.files[name] = self.pick.choice([b"<svg>", b"<svg></svg>", b"", b"MRB1", b"\n<svg"])
+        if page is not None and "force" not in flags:
+            flags["force"] = self.pick.random() < 0.25
+            words = words + ["--force"] * flags["force"]
+        return (to, page), words, flags
+
     def of_text(self):
         """A proof of a text."""
-        name, (case, wedge), plain = self.pick.choice(["text"] * 6 + ["te\u202ext", "te\x9b.txt", "12:3: a"]), self.metal(20), self.pick.random() < 0.2
+        name, (case, wedge), plain = self.pick.choice(["text"] * 6 + ["te\u202ext", "te\x9b.txt", "12:3: a", "a&b<c>.txt"]), self.metal(20), self.pick.random() < 0.2
         if self.pick.random() < 0.97:
             self.files[name] = self.some_text()
         words, flags = self.asked_for(self.trial(0.06))
-        to, more, force = self.picture(name, case, wedge)
+        targets, more, force = self.drawings(name, case, wedge)
         words = ["proof", "--text", name, "--case", case, "--wedge", wedge] + ["--plain"] * plain + words + more
-        return oracle_runs.proof, [name, case, wedge, to], words, {**flags, **force, "text": "plain" if plain else "marks"}
+        return oracle_runs.proof, [name, case, wedge, *targets], words, {**flags, **force, "text": "plain" if plain else "marks"}
 
     def texted(self):
         """A feed with the copy of a text, which another site may have edited, and with settings."""
@@ -124,9 +146,9 @@ class Notes:
         """A proof of a feed: of the copy of a text, or of any."""
         job, (until, asked) = self.texted() if self.pick.random() < 0.7 else self.job(), self.until(0.2)
         words, flags = self.asked_for(self.trial(1) if self.pick.random() < 0.4 else [])
-        to, more, force = self.picture(*job)
+        targets, more, force = self.drawings(*job)
         words = ["proof", "one", "--case", job[1], "--wedge", job[2], *words, *more, *asked]
-        return oracle_runs.proof, [*job, to], words, {**flags, **force, "until": until}
+        return oracle_runs.proof, [*job, *targets], words, {**flags, **force, "until": until}
 
     def some_lines(self, cells):
         """Lines of a ribbon: cells with S or without, and the positions of the wedges; a few of them again and again."""
@@ -135,9 +157,14 @@ class Notes:
         return [pick.choice(made) for _ in range(pick.choice([0, 1, 2, 3, 3, 4, 6]))]
 
     def ribbon_of(self, lines):
-        images = [oracle.image_fine(8)]
+        """The ribbon of lines, of one galley or of several, some of which may have no line."""
+        ends, images = self.pick.choice([0, 0, 0, 0.3, 0.7]), [oracle.image_fine(8)]
         for cells, coarse, fine in lines:
+            while self.pick.random() < ends:
+                images.append(oracle.image_fine(self.pick.choice([8, 8, 8, 1])))
             images += [oracle.image_cell(*one) for one in cells] + [oracle.image_coarse(coarse), oracle.image_fine(fine)]
+        while self.pick.random() < ends:
+            images.append(oracle.image_fine(8))
         return oracle.ribbon_bytes(images)
 
     def damaged(self, data, often):

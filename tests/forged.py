@@ -302,7 +302,7 @@ def metal_in(folder):
 
 
 def texts(program, folder, n):
-    """The proofs of large texts, for editors and as a galley, with second looks."""
+    """The proofs of large texts, for editors, as a galley and with a document, with second looks."""
     words = ["proof", "--text", "large.txt", *metal_in(folder), "--set", "measure=60", "--set", "tight=40", "--set", "loose=240", "--faults", "--warn"]
 
     def write(size):
@@ -313,13 +313,13 @@ def texts(program, folder, n):
 
     for name in [it[0] for it in large_texts(1000)]:
         due, both = {}, []
-        for form in (["--format", "gcc"], []):
+        for form in (["--format", "gcc"], [], ["--html", "large.html", "--force"]):
             used, out = slow(program, folder, name, n, write, *words, *form)
             both.append(used)
             for cause, count in due.items():
                 found = len(re.findall(f"(?m)^(?:large.txt:[0-9]+:[0-9]+: (?:warning: )?|look at [0-9]+: |){cause}", out))
                 check(f"{name}, {cause}", found, count)
-        print(f"{name}: a text of {n} symbols in {both[0]:.2f} s for editors, {both[1]:.2f} s as a galley")
+        print(f"{name}: a text of {n} symbols in {both[0]:.2f} s for editors, {both[1]:.2f} s as a galley, {both[2]:.2f} s with a document")
 
 
 def ribbons(program, folder, n):
@@ -348,6 +348,9 @@ def ribbons(program, folder, n):
                 told = "none differs" if more[1] == more[2] or not lines else "1 differs" if lines == 1 else f"{lines} differ"
                 head = f"large.rib {lines} lines, {more[2]} {lines} lines, {told}"
             check(f"{name}, {' '.join(more)}", out[:len(head)], head)
+            if any(it.startswith("1..") for it in more):
+                ends = 0 if lines else rows - 1
+                check(f"{name}, marks of {' '.join(more)}", out.count("-- end of galley "), ends)
             if more[0] == "diff":
                 check(f"{name}, lines of {' '.join(more)}", out.count("\n"), 1 if "none" in told else 2 + 2 * lines)
         print(f"{name}: a ribbon of {n} rows is read in {took[0]:.2f} s, and told from another in {took[3]:.2f} s")

@@ -342,17 +342,26 @@ def sorted_out(program, feed, data, case_data):
     return differing("sorts", got, (0 if whole else 1, out.encode(), b"")), forms_of("sorts", out)
 
 
+def other_files(name, left, due):
+    """Where files that a run has left differ from those that are due, or none."""
+    for file in sorted({*left, *due}):
+        one, two = left.get(file), due.get(file)
+        if one is None or two is None:
+            if one != two:
+                return "%s: %s %s" % (name, "no" if one is None else "a", file)
+        elif one != two:
+            at = next((k for k, (a, b) in enumerate(zip(one, two)) if a != b), min(len(one), len(two)))
+            return "%s: %s, byte %d: %r, due %r" % (name, file, at, one[max(0, at - 60):at + 60], two[max(0, at - 60):at + 60])
+    return None
+
+
 def pictured(data, galley):
-    """What is wrong with the picture of a galley, or of none."""
-    if data is None:
-        return "no picture"
+    """What is wrong with the picture of a galley, as XML has it."""
     try:
         root = ElementTree.fromstring(data)
     except ElementTree.ParseError as fault:
         return "no XML: %s" % fault
     seen = pictures.galley_in(root)
-    if galley is None:
-        return None if not seen else "lines where there is no galley"
     frame = [float(it.get("width")) for it in root.iter(pictures.SVG + "rect") if it.get("class") == "frame"]
     if frame != [galley.settings["measure"]] or len(seen) != len(galley.lines):
         return "a frame of %r, %d lines of %d" % (frame, len(seen), len(galley.lines))
@@ -367,33 +376,49 @@ def pictured(data, galley):
     return None
 
 
+METAL = ("case", "wedge")
+
+
+def drawn_of(program, source, files, words, trial, targets, **flags):
+    """A proof of a feed or of a text with its picture and its document: what differs of what it says and of all files, what is due,
+    and the files that it has made."""
+    for file, data in files.items():
+        write(file, data)
+    why, name = refused_trial(trial), " ".join(words)
+    due = (1, "", why, files) if why else oracle_runs.run(oracle_runs.proof, files, source, *METAL, *targets, trial=trial, **flags)
+    wrong = differing(name, ran(program, words), bytes_of(due))
+    left = {file: read(file) for file in os.listdir(".") if file in files or file.startswith("a.")}
+    made = {file: there(file) for file in left if file not in files}
+    return wrong or other_files(name, left, due[3]), due, made
+
+
+def words_of(source, alone, gcc, warn, trial, targets, height):
+    words = ["proof", *source, "--case", "case", "--wedge", "wedge", *["--faults"] * alone, *["--format", "gcc"] * gcc, *["--warn"] * warn]
+    words += [word for option, target in zip(("--svg", "--html"), targets) if target for word in (option, target)]
+    return words + (["--page", str(height)] if height else []) + [word for key, value in trial for word in ("--set", "%s=%d" % (key, value))]
+
+
 def proofed(program, feed, data, case_data, wedge_data, trial, picture):
     """The proof of a feed by settings that are tried, whole or its faults or for editors, with second looks or without, and its
-    picture where one is wanted."""
-    write("case", case_data)
-    write("wedge", wedge_data)
+    picture where one is wanted, and its document."""
     number = pick_of(data, wedge_data)
-    alone, gcc, warn = bool(number & 1), number % 5 < 2, bool(number & 4)
-    words = ["proof", feed, "--case", "case", "--wedge", "wedge", *flags_of(alone, gcc, warn)] + ["--svg", "a.svg"] * picture
-    for key, value in trial:
-        words += ["--set", "%s=%d" % (key, value)]
-    got, name = ran(program, words), " ".join(words)
-    drawn, files = there("a.svg"), reported_galley.inputs(("case", "wedge"), case_data, wedge_data)
-    why = refused_trial(trial) or refused(feed, data) or ("copydesk: input refused\n" + files if isinstance(files, str) else "")
-    if why:
-        return differing(name, got, (1, b"", why.encode())) or (name + ": a picture" if drawn else None), forms_of("proof", why)
-    meaning = oracle.Meaning(reported.held_in(data))
-    editor = (feed, oracle_notes.places_of_export(meaning.copy)) if gcc else None
-    out, clean, galley = oracle_notes.proof(meaning, {**meaning.settings, **dict(trial)}, *files, alone, editor, warn)
-    wrong = differing(name, got, (0 if clean else 1, out.encode(), b""))
-    if not wrong and (picture or drawn):
-        wrong = pictured(drawn, galley)
-        wrong = wrong and name + ": " + wrong
-    return wrong, forms_of("proof gcc" if gcc else "proof", out) | looks_of(out)
+    asked = {"alone": bool(number & 1), "gcc": number % 5 < 2, "warn": bool(number & 4)}
+    targets = ("a.svg" if picture else None, "a.html" if number % 7 < 3 else None)
+    height = 200 + number % 900 if any(targets) and number % 3 else None
+    words = words_of([feed], *asked.values(), trial, targets, height)
+    wrong, due, made = drawn_of(program, feed, {feed: data, "case": case_data, "wedge": wedge_data}, words, trial, targets, height=height, **asked)
+    if not wrong and "a.svg" in made and not height:
+        meaning, metal = oracle.Meaning(reported.held_in(data)), reported_galley.inputs(METAL, case_data, wedge_data)
+        galley = reported_galley.galley_in(meaning.copy, {**meaning.settings, **dict(trial)}, *metal)
+        wrong = None if isinstance(galley, str) else pictured(made["a.svg"], galley)
+    return wrong, forms_of("proof gcc" if asked["gcc"] else "proof", due[1] + due[2]) | looks_of(due[1]) | pages_of(made.get("a.html"))
 
 
-def flags_of(alone, gcc, warn):
-    return ["--faults"] * alone + (["--format", "gcc"] if gcc else []) + ["--warn"] * warn
+def pages_of(data):
+    """The forms of a document: whether it has a galley, how many pages, and which heads."""
+    text = (data or b"").decode()
+    heads = ["head " + head for head in re.findall(r"<h2>(.*)</h2>", text)]
+    return {"page " + it for it in (*heads, "%d" % min(4, text.count("<svg ")), "none" if "no galley" in text else "some")} if text else set()
 
 
 def refused_trial(trial):
@@ -408,30 +433,37 @@ def looks_of(out):
 
 
 def text_proofed(program, text, plain, case_data, wedge_data, trial):
-    """The proof of a text by settings that are tried, for editors and then as a galley, with second looks; and its picture."""
-    write("case", case_data)
-    write("wedge", wedge_data)
-    write("text", text)
-    files, forms, metal = {"text": text, "case": case_data, "wedge": wedge_data}, set(), ("case", "wedge")
-    alone, why = bool(pick_of(text, wedge_data) & 1), refused_trial(trial)
+    """The proof of a text by settings that are tried, for editors and then as a galley, with second looks; and its picture, its
+    pages and its document."""
+    number, forms = pick_of(text, wedge_data), set()
+    files, source = {"text": text, "case": case_data, "wedge": wedge_data}, ["--text", "text", *["--plain"] * plain]
     for gcc in (True, False):
-        words = ["proof", "--text", "text", "--case", "case", "--wedge", "wedge", "--svg", "a.svg", *["--plain"] * plain, *flags_of(alone, gcc, True)]
-        words += [word for key, value in trial for word in ("--set", "%s=%d" % (key, value))]
-        due = oracle_runs.run(oracle_runs.proof, files, "text", *metal, "a.svg", text="plain" if plain else "marks", trial=trial, alone=alone, gcc=gcc, warn=True)
-        if why:
-            due = (1, "", why, files)
-        got, picture = ran(program, words), there("a.svg")
-        wrong = differing(" ".join(words), got, bytes_of(due))
-        if not wrong and (picture is not None) != ("a.svg" in due[3]):
-            wrong = "%s: %s picture" % (" ".join(words), "no" if picture is None else "a")
-        if not wrong and picture is not None:
-            both = reported_galley.inputs(metal, case_data, wedge_data)
-            galley = reported_galley.galley_in(reported_copy.read_text(text, plain), oracle_notes.settings_of(trial, *both), *both)
-            wrong = pictured(picture, None if isinstance(galley, str) else galley)
+        asked, height = {"alone": bool(number & 1), "gcc": gcc, "warn": True}, None if gcc else 200 + number % 900
+        targets = ("a.svg", None if gcc else "a.html")
+        words = words_of(source, *asked.values(), trial, targets, height)
+        wrong, due, made = drawn_of(program, "text", files, words, trial, targets, height=height, text="plain" if plain else "marks", **asked)
         if wrong:
             return wrong, forms
-        forms |= forms_of("text gcc" if gcc else "text", due[1] + due[2]) | looks_of(due[1])
+        forms |= forms_of("text gcc" if gcc else "text", due[1] + due[2]) | looks_of(due[1]) | pages_of(made.get("a.html"))
     return None, forms
+
+
+def punched_again(program, ribbon, files, names, cast):
+    """What is wrong with the ribbon of a feed that is punched several times, and with the reading of it: its rows are those of
+    the one ribbon so often, and a mark is written where each but the last ends."""
+    count = 2 + pick_of(ribbon, b"punch") % 3
+    words = ["punch", *["feed"] * count, "--case", names[0], "--wedge", names[1], "-o", "rib"]
+    got, stored = ran(program, words), there("rib")
+    many = oracle.ribbon_bytes(reported.images_of(ribbon) * count)
+    if got != (0, b"", b"") or stored != many:
+        return "%s: %r, %r" % (" ".join(words), got, stored)
+    due, whole = reported.reading(many, *reported_galley.inputs(names, *files))
+    if not whole or due.count("-- end of galley ") != count - 1 or not due.startswith("RIBBON %d lines" % (count * int(cast.split(b" ")[1]))):
+        return "read: of %d galleys %r" % (count, due)
+    write("rib", many)
+    got = ran(program, ["read", "rib", "--case", names[0], "--wedge", names[1]])
+    there("rib")
+    return differing("read of %d galleys" % count, got, (0, due.encode(), b""))
 
 
 def read_again(program, ribbon, files, names, cast):

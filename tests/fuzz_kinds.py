@@ -550,9 +550,10 @@ class Files(Kind):
         if answer.startswith(b"ribbon "):
             if (status, out, why, stored) != (0, b"", b"", bytes.fromhex(answer[7:].decode())):
                 return "punch: status %s, %r %r %r" % (status, out, why, stored), None
-            wrong = fuzz_asks.read_again(program, stored, files, ("case%d" % k, "wedge%d" % k), cast)
-            if wrong:
-                return wrong, None
+            for again in (fuzz_asks.read_again, fuzz_asks.punched_again):
+                wrong = again(program, stored, files, ("case%d" % k, "wedge%d" % k), cast)
+                if wrong:
+                    return wrong, None
         elif status != 1 or stored is not None or (out != punched(world.sites[k], answer) if answer.startswith(b"no ribbon: ") else out or not why):
             return "punch: status %s, %r %r, due %r" % (status, out, why, answer[:300]), None
         forms = {"punch " + re.sub(r"[0-9]+", "#", why.decode("utf-8", "replace"))[:80]}
@@ -623,8 +624,9 @@ class Ribbons(Kind):
         cases = [oracle.first_fault_case(case)[1] for case, _ in self.metal]
         held = [oracle.image_cell(cell, s) for case in cases for cell in (*case["cells"], case["space"]) for s in (False, True)]
         for number in range(20):
-            images = [oracle.image_fine(8)]
+            images = [oracle.image_fine(8)] * (1 + (number % 5 == 4))
             for _ in range(pick.randrange(3)):
+                images += [oracle.image_fine(8)] * (number % 5 == 3)
                 images += [pick.choice(held if number % 2 else cells) for _ in range(pick.randrange(6))] + [oracle.image_coarse(pick.randint(1, 15)), oracle.image_fine(pick.randint(1, 15))]
             out.append({"ribbon": oracle.ribbon_bytes(images).hex()})
         return out

@@ -457,8 +457,8 @@ LACKED = 'insert 1 0 r"%s"\n' % ("n~ |" * 12)
 
 
 def previews(program, folder, library):
-    """A proof of a feed or of a text, a punch, a reading, two ribbons told apart and a list of sorts: done as undisturbed, or
-    ended out of memory, and then no ribbon or picture is there, and what stood in its place is."""
+    """A proof of a feed or of a text, a punch of one feed or of several, a reading, two ribbons told apart and a list of sorts: done
+    as undisturbed, or ended out of memory, and then no ribbon, picture or document is there, and what stood in its place is."""
     ribbon, note = os.path.join(folder, "preview.rib"), os.path.join(folder, "note.txt")
     for feed, commands in (("preview.feed", SETTINGS), ("lacking.feed", LACKED), ("faulty.feed", SETTINGS + FAULTY), ("second.feed", SETTINGS.replace("noon", "none"))):
         subprocess.run([program, "desk", feed, "--site", "1"], input=commands.encode(), cwd=folder, capture_output=True, check=True)
@@ -482,6 +482,7 @@ def previews(program, folder, library):
     for name, text in (("noted.txt", NOTED), ("open.txt", OPEN)):
         put(os.path.join(folder, name), text.encode())
     subprocess.run([program, *("punch -o other.rib second.feed" + files).split()], cwd=folder, capture_output=True, check=True)
+    subprocess.run([program, *("punch -o many.rib second.feed preview.feed" + files).split()], cwd=folder, capture_output=True, check=True)
     put(os.path.join(folder, "cut.rib"), get(os.path.join(folder, "made.rib"))[:-4])
     noted = "--text noted.txt --set measure=120 --set tight=40 --set loose=200" + files
     kinds = (
@@ -495,8 +496,21 @@ def previews(program, folder, library):
         ("punch -o note.txt --force " + metal, 0, ""),
         ("punch -o preview.rib " + faulty, 1, "copy faults"),
         ("punch -o preview.rib --faulty " + faulty, 0, ""),
+        ("punch -o preview.rib second.feed preview.feed " + metal, 0, ""),
+        ("punch -o made.rib second.feed " + metal, 0, ""),
+        ("punch -o preview.rib second.feed lacking.feed " + metal, 1, "no ribbon"),
+        ("punch -o preview.rib second.feed " + faulty, 1, "copy faults"),
+        ("punch -o note.txt second.feed " + metal, 1, "not replaced"),
+        ("read many.rib" + files, 0, ""),
+        ("read many.rib --lines 2..9" + files, 0, ""),
         ("proof --set loose=150 --svg preview.rib " + metal, 0, ""),
         ("proof --svg note.txt " + metal, 1, "not replaced"),
+        ("proof --set loose=150 --html preview.rib " + metal, 0, ""),
+        ("proof --set loose=60 --html preview.rib --page 200 " + metal, 1, ""),
+        ("proof --html note.txt " + metal, 1, "not replaced"),
+        ("proof --html preview.rib --set case=7 " + metal, 1, ""),
+        ("proof --html preview.rib " + faulty, 1, ""),
+        ("proof --html preview.rib " + noted, 1, ""),
         (of_ribbon, 0, ""),
         (of_ribbon + " --svg preview.rib", 0, ""),
         (of_ribbon + " --svg note.txt", 1, "not replaced"),

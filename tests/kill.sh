@@ -1,6 +1,6 @@
 #!/usr/bin/env bash
 # Kills a run on a stored feed at many moments: afterwards the old feed stands, or the new one, and never a part; and FEED.last,
-# which is written after the feed, stands beside the new one alone, whole or not at all: kill.sh [PROGRAM].
+# which is written after the feed, stands beside the new one alone, whole or not at all: kill.sh [PROGRAM [ROUNDS]].
 set -euo pipefail
 program=$(realpath "${1:-$(dirname "$0")/../crates/copydesk/out/copydesk}")
 folder=$(mktemp -d)
@@ -30,7 +30,7 @@ if cmp -s old new; then
   exit 1
 fi
 
-rounds=150
+rounds=${2:-150}
 olds=0
 news=0
 lasts=0

@@ -9,6 +9,7 @@ import sys
 import oracle
 import oracle_log
 import oracle_notes
+import oracle_pages
 import oracle_readings
 import oracle_room
 import reported
@@ -289,19 +290,25 @@ def find(files, feed, text, plain=False, metal=()):
 
 
 def spare(name, sources, what):
-    """Refuses to store a ribbon or a picture in the place of what it is made of."""
-    if name in sources:
+    """Refuses to store a ribbon, a picture or a document in the place of what it is made of, or of what is stored with it."""
+    if name is not None and name in sources:
         raise Stops("copydesk: file fault\n%s: the %s would take its place\n" % (reported.plain(name), what))
 
 
-def put(files, name, data, force, out=""):
-    """Stores a ribbon or a picture in the place of nothing but a file of its own kind, unless it is forced."""
+def kind_of(data):
+    """What a file is, by its first bytes."""
+    if len(data) > oracle.MAX_FILE:
+        return "a file of more than 67,108,864 bytes"
+    if data.startswith(oracle_pages.BEGIN.encode()):
+        return "a document"
+    return {b"MFD1": "a feed", b"MFD2": "a feed", b"MRB1": "a ribbon", b"<svg": "a picture"}.get(data[:4], "another file")
+
+
+def put(files, name, data, force):
+    """Stores a ribbon, a picture or a document in the place of nothing but a file of its own kind, unless it is forced."""
     there = files.get(name, b"")
-    kinds = {b"MFD1": "a feed", b"MFD2": "a feed", b"MRB1": "a ribbon", b"<svg": "a picture"}
-    large = len(there) > oracle.MAX_FILE
-    if there and (large or there[:4] != data[:4]) and not force:
-        kind = "a file of more than 67,108,864 bytes" if large else kinds.get(there[:4], "another file")
-        raise Stops("copydesk: not replaced\n%s: %s stands there\n" % (name, kind), out)
+    if there and kind_of(there) != kind_of(data) and not force:
+        raise Stops("copydesk: not replaced\n%s: %s stands there\n" % (name, kind_of(there)))
     files[name] = data
 
 
@@ -313,10 +320,25 @@ def metal_in(files, case, wedge):
     return metal
 
 
-def punch(files, feed, case, wedge, to, force=False, faulty=False):
-    """The ribbon of a feed, stored: of a copy with faults only if it is asked for, and never of a job with faults."""
-    spare(to, (feed, case, wedge), "ribbon")
-    held, metal = held_in(files, feed), metal_in(files, case, wedge)
+def punch(files, *names, force=False, faulty=False):
+    """The ribbon of feeds, one after the other, stored: of a copy with faults only if it is asked for, and never of a job with
+    faults. The case and the wedge are read once, behind the first feed."""
+    *feeds, case, wedge, to = names
+    spare(to, (*feeds, case, wedge), "ribbon")
+    metal, rows = None, []
+    for feed in feeds:
+        held = held_in(files, feed)
+        metal = metal or metal_in(files, case, wedge)
+        rows += rows_of(held, case, wedge, metal, faulty)
+    ribbon = oracle.ribbon_bytes(rows)
+    if len(ribbon) > oracle.MAX_FILE:
+        raise Stops("copydesk: too long\n..")
+    put(files, to, ribbon, force)
+    return ""
+
+
+def rows_of(held, case, wedge, metal, faulty):
+    """The rows of a feed's job, the head row before those of its lines."""
     meaning = oracle.Meaning(held)
     if meaning.faults and not faulty:
         raise Stops("copydesk: copy faults\n", faults_of(held))
@@ -325,8 +347,7 @@ def punch(files, feed, case, wedge, to, force=False, faulty=False):
         other = reported_galley.other_number(meaning.settings, *metal)
         why = "{0}: it is {1} {3}, and the setting {1} is {2}\n".format({"case": case, "wedge": wedge}[other[0]], *other) if other else ""
         raise Stops("copydesk: no ribbon\n" + why, reported_galley.no_ribbon(faults, meaning.settings))
-    put(files, to, oracle.ribbon_bytes(images), force)
-    return ""
+    return images
 
 
 def sorts(files, feed, case, until=None):
@@ -353,10 +374,12 @@ def text_in(files, name, plain):
     return text
 
 
-def proof(files, source, case, wedge, to=None, force=False, until=None, text=None, trial=(), alone=False, gcc=False, warn=False):
-    """The galley of a feed, or of a text that is plain or not, or a line for each of its faults; and then its picture, of which
-    only the beginning is given here."""
-    spare(to, (source, case, wedge), "picture")
+def proof(files, source, case, wedge, to=None, html=None, height=None, force=False, until=None, text=None, trial=(), alone=False, gcc=False, warn=False):
+    """The galley of a feed, or of a text that is plain or not, or a line for each of its faults; and then its picture, or its
+    pages as pictures where a height in points is given, and its document."""
+    names = (source, case, wedge)
+    spare(to, names, "picture")
+    spare(html, (*names, to), "document")
     if text is None:
         meaning = oracle.Meaning(held_in(files, source, until=until))
     else:
@@ -367,7 +390,15 @@ def proof(files, source, case, wedge, to=None, force=False, until=None, text=Non
     else:
         settings, places = oracle_notes.settings_of(trial, *metal), meaning.places
     editor = (source, places) if gcc else None
-    return drawn(files, to, force, *oracle_notes.proof(meaning, settings, *metal, alone, editor, warn)[:2])
+    out, whole, _ = oracle_notes.proof(meaning, settings, *metal, alone, editor, warn)
+    galley, stores = reported_galley.galley_in(meaning.copy, settings, *metal) if to is not None or html is not None else None, []
+    if to is not None:
+        pages = oracle_pages.pictures(names, meaning, galley, height) if height is not None else [oracle_pages.picture(meaning, galley)]
+        stores.append(lambda: put_pages(files, to, [page.encode() for page in pages], force, names))
+    if html is not None:
+        made = oracle_pages.document(names, meaning, galley, 842 if height is None else height).encode()
+        stores.append(lambda: put(files, html, made, force))
+    return drawn(out, whole, *stores)
 
 
 def read(files, ribbon, case, wedge, to=None, force=False, some=None, pitch=None):
@@ -378,7 +409,8 @@ def read(files, ribbon, case, wedge, to=None, force=False, some=None, pitch=None
     out, whole = reported.reading(data, *metal_in(files, case, wedge), some, pitch)
     if out.startswith("no ribbon: "):
         raise Stops("", out)
-    return drawn(files, to, force, out, whole, "%s %s" % reported.picture_of(data, some))
+    shown = b"<svg%s %s" % tuple(str(it).encode() for it in reported.picture_of(data, some))
+    return drawn(out, whole, *([lambda: put(files, to, shown, force)] if to is not None else []))
 
 
 def compare(files, one, other, case, wedge):
@@ -396,10 +428,28 @@ def bytes_in(files, name):
     return files[name]
 
 
-def drawn(files, to, force, out, whole, shown=""):
-    """The end of a command that writes a text, and then stores a picture where one is wanted."""
-    if to is not None:
-        put(files, to, b"<svg" + shown.encode(), force, out)
+def put_pages(files, name, pages, force, sources):
+    """Stores one picture, or the pages of a galley under its name with their numbers, up to the first that may not be stored."""
+    if len(pages) == 1:
+        return put(files, name, pages[0], force)
+    for number, page in enumerate(pages, 1):
+        numbered = oracle_pages.numbered(name, number)
+        if numbered in sources:
+            raise Stops("copydesk: not replaced\n%s: another file stands there\n" % name)
+        put(files, numbered, page, False)
+    return None
+
+
+def drawn(out, whole, *stores):
+    """The end of a command that writes a text, and then stores a picture or a document, or both, where one is wanted: each is tried."""
+    told = ""
+    for store in stores:
+        try:
+            store()
+        except Stops as stop:
+            told += stop.told
+    if told:
+        raise Stops(told, out)
     if not whole:
         raise Stops("", out)
     return out

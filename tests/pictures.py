@@ -81,7 +81,7 @@ def galley_in(root):
     out, margin = [], []
     for it in root.iter():
         kind = it.get("class", "")
-        if it.tag == SVG + "text" and kind == "n":
+        if it.tag == SVG + "text" and kind == "n" and it.text.isdigit():
             margin.append(int(it.text))
         elif it.tag == SVG + "text" and kind in ("w", "w f"):
             places = [float(x) for inner in it.iter() for x in inner.get("x", "").split()]
@@ -102,7 +102,12 @@ def held(room, name, measure, *more, status=None):
     frame = [it for it in root.iter(SVG + "rect") if it.get("class") == "frame"]
     if len(frame) != 1 or float(frame[0].get("width")) != measure or float(frame[0].get("x")) != FRAME:
         fail("%s: the frame is not the measure's" % name)
-    told, seen = galley_lines(proof), galley_in(root)
+    lines_held(name, galley_lines(proof), galley_in(root), measure)
+    return proof, root
+
+
+def lines_held(name, told, seen, measure):
+    """The lines of a picture, or of all pages of a document, beside those of a proof."""
     if len(told) != len(seen) or not seen:
         fail("%s: %d lines in the proof, %d in the picture" % (name, len(told), len(seen)))
     for (number, place, faulty, words, fills), line in zip(told, seen):
@@ -124,7 +129,6 @@ def held(room, name, measure, *more, status=None):
             fail(where + "it ends at %.2f of %.2f" % (end, FRAME + measure))
         if faulty and not line["cause"]:
             fail(where + "no cause beside it")
-    return proof, root
 
 
 def ribbon(room, name, more_status=0):

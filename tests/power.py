@@ -11,7 +11,7 @@ that the system may leave where the power is lost after any number of the calls.
   empty, cut, torn, or as long as it should be with zeros in it.
 
 On each such disk each feed is the old or the new one (and the new one, durably, if the run had ended), which `check` and
-`export` read; so is a ribbon and a picture. No other file differs. FEED.last is the old or the new one, and never before
+`export` read; so is a ribbon, a picture and a document. No other file differs. FEED.last is the old or the new one, and never before
 its feed. The next run of the same command ends as it does where the old or the new file stands and nothing was left behind.
 That is also what docs/FORMATS.md says of it. On some of these disks the power is lost again in that next run.
 
@@ -68,6 +68,9 @@ STORES = (
     Store("punch other.feed -o made.rib " + METAL, "made.rib", (0, "", "")),
     Store("proof hand.feed --svg galley.svg " + METAL, "galley.svg", (0, "GALLEY", "")),
     Store("proof rooms/one.feed --svg made.svg " + METAL, "made.svg", (1, "", "")),
+    Store("proof hand.feed --html galley.html " + METAL, "galley.html", (0, "GALLEY", "")),
+    Store("proof rooms/one.feed --html made.html --page letter " + METAL, "made.html", (1, "", "")),
+    Store("punch hand.feed other.feed -o made.rib " + METAL, "made.rib", (0, "", "")),
     Store("read made.rib --svg holes.svg " + METAL, "holes.svg", (0, "RIBBON", "")),
 )
 
@@ -306,7 +309,7 @@ def lost(bench, store, image, all_states, chance):
     start = {name: data for name, data in image.items() if name not in store.lacks}
     loss = Loss(bench, store, whole_disk(start))
     loss.faults += loss.unread()
-    if loss.new == loss.old or loss.whole.status != 0 and not store.job.own.endswith(".svg"):
+    if loss.new == loss.old or loss.whole.status != 0 and not store.job.own.endswith((".svg", ".html")):
         loss.faults.append("%s: undisturbed %r" % (store.job.words, loss.whole))
     loss.find(chance)
     losses = [loss]

@@ -147,6 +147,27 @@ def figures(lines, count, case, points, pitch):
     return out
 
 
+def ends_of_galleys(images):
+    """Where galleys end: of each FineOut row directly behind a FineOut row, the head row of the next, how many lines are before it."""
+    ends, lines, last = [], 0, ""
+    for image in images:
+        kind = oracle.row_of(image)[0]
+        lines += kind == "coarse"
+        if kind == last == "fine":
+            ends.append(lines)
+        last = kind
+    return ends
+
+
+def with_marks(texts, ends):
+    """Lines, and behind the line before it the mark of each end of a galley, all with the number of the line; a mark with no line
+    before it has that of the first."""
+    out = list(enumerate(texts, 1))
+    for count, end in reversed(list(enumerate(ends, 1))):
+        out.insert(end, (max(1, end), "  -- end of galley %d --\n" % count))
+    return out
+
+
 def reading(data, case, wedge, some=None, pitch=None):
     """What `read` writes of a ribbon by a case and a wedge, and whether it is whole: of all lines, of those from one number to
     another, or, where the way of a row is given, its figures."""
@@ -157,8 +178,8 @@ def reading(data, case, wedge, some=None, pitch=None):
     out = "RIBBON %d lines, %d rows, longest %s points\n\n" % (len(lines), count, points.width(longest))
     if pitch is not None:
         return out + figures(lines, count, case, points, pitch), True
-    texts = line_texts(lines, points)
-    wanted = [text for number, text in enumerate(texts, 1) if some is None or some[0] <= number <= some[1]]
+    texts = with_marks(line_texts(lines, points), ends_of_galleys(images_of(data)))
+    wanted = [text for number, text in texts if some is None or some[0] <= number <= some[1]]
     return out + "  line    c/f     points   short  text\n" + "".join(wanted), True
 
 

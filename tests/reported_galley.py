@@ -39,7 +39,7 @@ class Line:
 
     def __init__(self, number, begin, end, given, widths):
         self.number, self.begin, self.end = number, begin, end
-        self.words, self.filled, _, self.spaces, left, self.fills = given
+        self.words, self.filled, self.added, self.spaces, left, self.fills = given
         self.rest = left + sum(count * width for count, width in zip(self.fills, widths["fills"]))
         self.sum = 53 + left // (oracle.STEP * self.spaces) if self.spaces else None
         self.free = widths["measure"] - sum(map(widths["word"], self.words)) - len(self.words) * widths["tight"]
@@ -97,7 +97,9 @@ class Galley:
         of_cell = lambda cell: wide["units"][cell[1] - 1] * wedge["set_q"] * self.pica
         self.width = lambda word: sum(of_cell(held["symbols"][symbol]) for symbol in word)
         measure, tight = settings["measure"] * 72 * self.pica, settings["tight"]
-        widths = {"measure": measure, "word": self.width, "fills": [of_cell(cell) for cell in case["fill"]], "tight": of_cell(case["space"]) + oracle.STEP * (tight - 53)}
+        self.neutral, self.fills = of_cell(case["space"]), [of_cell(cell) for cell in case["fill"]]
+        self.set, self.known = 25 * wedge["set_q"], case["symbols"]
+        widths = {"measure": measure, "word": self.width, "fills": self.fills, "tight": self.neutral + oracle.STEP * (tight - 53)}
         self.lines, at = [], 0
         for number, given in enumerate(oracle.lines_of(copy, held, wide, measure, tight), 1):
             begin, at = at, at + sum(len(word) + 1 for word in given[0])
@@ -107,10 +109,17 @@ class Galley:
                 line.next = oracle.split(oracle.split(copy[at:], (0, 10))[0], (0, 32))[0]
             self.lines.append(line)
 
+    def head(self):
+        """The counts and the settings."""
+        missing = "" if not self.lacking else "%d missing sort%s, " % (len(self.lacking), "" if len(self.lacking) == 1 else "s")
+        return "%d lines, %d at fault, %s" % (len(self.lines), sum(line.fault is not None for line in self.lines), missing) + self.set_by()
+
+    def set_by(self):
+        return "measure %d points, tight %d, loose %d" % tuple(self.settings[key] for key in ("measure", "tight", "loose"))
+
     def text(self, alone):
         tight, loose, faulty = self.settings["tight"], self.settings["loose"], [line for line in self.lines if line.fault]
-        missing = "" if not self.lacking else "%d missing sort%s, " % (len(self.lacking), "" if len(self.lacking) == 1 else "s")
-        out = "GALLEY %d lines, %d at fault, %smeasure %d points, tight %d, loose %d\n" % (len(self.lines), len(faulty), missing, self.settings["measure"], tight, loose)
+        out = "GALLEY %s\n" % self.head()
         for at in self.lacking:
             out += "\nno matrix for %s at place %d\n  | %s\n" % (name_of(self.copy[at]), at, marked(self.copy[max(0, at - 24):at + 25]))
         if not alone:

@@ -4,6 +4,7 @@ set -euo pipefail
 program=$(realpath "${1:-$(dirname "$0")/../crates/copydesk/out/copydesk}")
 examples=$(realpath "$(dirname "$0")/../examples")
 texts=$(realpath "$(dirname "$0")/words_texts.sh")
+pages=$(realpath "$(dirname "$0")/words_pages.sh")
 folder=$(mktemp -d)
 trap 'rm -rf "$folder"' EXIT
 trap 'echo "words: ${BASH_SOURCE[0]##*/}, line $LINENO is not as it must be" >&2' ERR
@@ -1004,5 +1005,8 @@ unset given
 
 # shellcheck source=tests/words_texts.sh
 . "$texts"
+
+# shellcheck source=tests/words_pages.sh
+. "$pages"
 
 echo "words: as they must be"

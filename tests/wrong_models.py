@@ -29,9 +29,11 @@ import jobs
 import oracle
 import reported
 from wrong_notes import NOTES
+from wrong_pages import PAGES
 from wrong_runs import PLAYS, READINGS, RUNS, STOPS
 
-SOURCE = ("oracle.py", "oracle_runs.py", "oracle_readings.py", "reported.py", "reported_copy.py", "reported_galley.py", "oracle_log.py", "oracle_room.py", "oracle_notes.py")
+SOURCE = ("oracle.py", "oracle_runs.py", "oracle_readings.py", "reported.py", "reported_copy.py", "reported_galley.py", "oracle_log.py", "oracle_room.py", "oracle_notes.py",
+          "oracle_pages.py")
 
 # Of the ribbon half: lines, justification, faults, units, rows, the caster, the two files.
 RIBBON = {
@@ -288,20 +290,20 @@ FILES = {
     "all is not heard": [("    if not everything and (most", "    if (most")],
     "all is for an empty text alone": [("    if not everything and (most or copy and not new)", "    if (most and new) or not everything and copy and not new")],
     # ribbons and pictures
-    "a kind is looked for in two bytes": [("there[:4] != data[:4]", "there[:2] != data[:2]")],
-    "a kind may stand further on": [("there[:4] != data[:4]", "data[:4] not in there[:9]")],
-    "an empty file is kept": [("    if there and (large", "    if name in files and (large")],
-    "nothing is kept": [("    if there and (large", "    if False and (large")],
-    "a ribbon gives way to a picture": [("there[:4] != data[:4]", "there[:4] not in (data[:4], b\"MRB1\")")],
-    "a picture gives way to a ribbon": [("there[:4] != data[:4]", "there[:4] not in (data[:4], b\"<svg\")")],
-    "nothing but a feed is kept": [("there[:4] != data[:4]", "there[:4] in (b\"MFD1\", b\"MFD2\")")],
-    "force is not heard": [("!= data[:4]) and not force:", "!= data[:4]):")],
-    "a feed of single operations is another file": [("kinds = {b\"MFD1\": \"a feed\", ", "kinds = {")],
-    "force takes the place of what it is made of": [("    spare(to, (feed, case, wedge), \"ribbon\")\n", "    spare(to, () if force else (feed, case, wedge), \"ribbon\")\n")],
-    "the case is no source": [("    spare(to, (feed, case, wedge), \"ribbon\")\n", "    spare(to, (feed, wedge), \"ribbon\")\n")],
+    "a kind is looked for in two bytes": [("if there and kind_of(there) != kind_of(data)", "if there and there[:2] != data[:2]")],
+    "a kind may stand further on": [("if there and kind_of(there) != kind_of(data)", "if there and data[:4] not in there[:9]")],
+    "an empty file is kept": [("    if there and kind_of(", "    if name in files and kind_of(")],
+    "nothing is kept": [("    if there and kind_of(", "    if False and kind_of(")],
+    "a ribbon gives way to a picture": [("kind_of(there) != kind_of(data)", "kind_of(there) not in (kind_of(data), \"a ribbon\")")],
+    "a picture gives way to a ribbon": [("kind_of(there) != kind_of(data)", "kind_of(there) not in (kind_of(data), \"a picture\")")],
+    "nothing but a feed is kept": [("kind_of(there) != kind_of(data)", "kind_of(there) == \"a feed\"")],
+    "force is not heard": [("!= kind_of(data) and not force:", "!= kind_of(data):")],
+    "a feed of single operations is another file": [("return {b\"MFD1\": \"a feed\", ", "return {")],
+    "force takes the place of what it is made of": [("    spare(to, (*feeds, case, wedge), \"ribbon\")\n", "    spare(to, () if force else (*feeds, case, wedge), \"ribbon\")\n")],
+    "the case is no source": [("    spare(to, (*feeds, case, wedge), \"ribbon\")\n", "    spare(to, (*feeds, wedge), \"ribbon\")\n")],
     "a picture in the place of the ribbon that it shows": [("    spare(to, (ribbon, case, wedge), \"picture\")\n", "    spare(to, (case, wedge), \"picture\")\n")],
-    "what stands there hides the text": [("there\\n\" % (name, kind), out)", "there\\n\" % (name, kind))")],
-    "what stands there is seen before the job": [("    held, metal = held_in(files, feed), metal_in(files, case, wedge)\n    meaning = oracle.Meaning(held)\n    if meaning", "    put(dict(files), to, b\"MRB1\", force)\n    held, metal = held_in(files, feed), metal_in(files, case, wedge)\n    meaning = oracle.Meaning(held)\n    if meaning")],
+    "what stands there hides the text": [("        raise Stops(told, out)\n", "        raise Stops(told)\n")],
+    "what stands there is seen before the job": [("    metal, rows = None, []\n", "    put(dict(files), to, b\"MRB1\", force)\n    metal, rows = None, []\n")],
     "copy faults are punched": [("    if meaning.faults and not faulty:", "    if False:")],
     "copy faults are never punched": [("    if meaning.faults and not faulty:", "    if meaning.faults:")],
     "forks alone stop a punch": [("    if meaning.faults and not faulty:", "    if any(kind == \"forked\" for kind, _ in meaning.faults) and not faulty:")],
@@ -654,6 +656,12 @@ class Noted(Filed):
     models, kind, count = NOTES, differential_files.Noted, 4000
 
 
+class Paged(Filed):
+    """Random proofs with documents, ribbons of several feeds, and readings of these."""
+
+    models, kind, count = PAGES, differential_files.Paged, 4000
+
+
 class Told:
     """The feeds and the files of the fuzzer's corpus: what is said of their copies, galleys and sorts."""
 
@@ -713,7 +721,7 @@ SOURCES = []
 
 
 def main():
-    SOURCES.extend([Jobs(), Scripts(), Runs(), Stops(), Played(), Told(), Filed(), Joins(), Noted()])
+    SOURCES.extend([Jobs(), Scripts(), Runs(), Stops(), Played(), Told(), Filed(), Joins(), Noted(), Paged()])
     bad = 0
     with multiprocessing.get_context("fork").Pool(2) as lanes:
         for name, found in lanes.imap(tell, [(number, name) for number, source in enumerate(SOURCES) for name in source.models]):
@@ -721,7 +729,7 @@ def main():
             bad += number < ENOUGH
             if COUNT or number < ENOUGH:
                 print("%5d  %s: %s" % (number, name, found if isinstance(found, str) else ", ".join("%d %s" % (n, aim) for aim, n in found.most_common(3))), flush=True)
-    print("%d wrong models of the ribbon half, %d of the copy half, %d of runs, %d of what memory stops, %d of lists of events, %d of what is said of copies, %d of commands on files, %d of what merges leave open and %d of texts and ribbons, %d not found" % (*[len(source.models) for source in SOURCES], bad))
+    print("%d wrong models of the ribbon half, %d of the copy half, %d of runs, %d of what memory stops, %d of lists of events, %d of what is said of copies, %d of commands on files, %d of what merges leave open, %d of texts and ribbons and %d of documents and of several galleys, %d not found" % (*[len(source.models) for source in SOURCES], bad))
     return 1 if bad else 0
 
 

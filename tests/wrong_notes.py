@@ -5,12 +5,12 @@ proofed, of what editors read, and of second looks."""
 NOTES = {
     "the last line of a range is left out": [("if some is None or some[0] <= number <= some[1]]", "if some is None or some[0] <= number < some[1]]")],
     "the first line of a range is left out": [("if some is None or some[0] <= number <= some[1]]", "if some is None or some[0] < number <= some[1]]")],
-    "a range from 0": [("for number, text in enumerate(texts, 1) if some", "for number, text in enumerate(texts, 0) if some")],
+    "a range from 0": [("for number, text in texts if some", "for number, text in [(number - 1, text) for number, text in texts] if some")],
     "a range is not heard": [("if some is None or some[0] <= number <= some[1]]", "]")],
-    "lines of a range are numbered anew": [("    texts = line_texts(lines, points)\n", "    if some is not None:\n        lines, some = lines[some[0] - 1:some[1]], None\n    texts = line_texts(lines, points)\n")],
+    "lines of a range are numbered anew": [("    texts = with_marks(line_texts(", "    if some is not None:\n        lines, some = lines[some[0] - 1:some[1]], None\n    texts = with_marks(line_texts(")],
     "the head counts the lines of a range": [("longest %s points\\n\\n\" % (len(lines), count,", "longest %s points\\n\\n\" % (len(lines if some is None else lines[some[0] - 1:some[1]]), count,")],
     "the longest of a range": [("longest, count = max((sum(line[2]) for line in lines), default=0)", "longest, count = max((sum(line[2]) for line in (lines if some is None else lines[some[0] - 1:some[1]])), default=0)")],
-    "a range beyond the end is refused": [("    texts = line_texts(lines, points)\n", "    if some is not None and some[1] > len(lines):\n        return \"no ribbon: it has not so many lines\\n\", False\n    texts = line_texts(lines, points)\n")],
+    "a range beyond the end is refused": [("    texts = with_marks(line_texts(", "    if some is not None and some[1] > len(lines):\n        return \"no ribbon: it has not so many lines\\n\", False\n    texts = with_marks(line_texts(")],
     "figures stand above the lines": [("        return out + figures(lines, count, case, points, pitch), True\n", "        out += figures(lines, count, case, points, pitch)\n")],
     "the length rounded down": [("tenths = -(-count * pitch[0] * 10 // pitch[1])", "tenths = count * pitch[0] * 10 // pitch[1]")],
     "the length to the nearest tenth": [("tenths = -(-count * pitch[0] * 10 // pitch[1])", "tenths = (20 * count * pitch[0] + pitch[1]) // (2 * pitch[1])")],
@@ -47,7 +47,7 @@ NOTES = {
     "the last row is not in the title": [("% (rows[0], rows[-1], len(images))", "% (rows[0], rows[-1] + 1, len(images))")],
     "a title with the count of what is drawn": [("% (rows[0], rows[-1], len(images))", "% (rows[0], rows[-1], len(rows))")],
     "the first row above": [("    return title, list(reversed(rows))", "    return title, list(rows)")],
-    "a picture is always of the whole": [("% reported.picture_of(data, some))", "% reported.picture_of(data))")],
+    "a picture is always of the whole": [("for it in reported.picture_of(data, some))", "for it in reported.picture_of(data))")],
     # two ribbons
     "a line that the second ribbon alone has is left out": [("range(max(map(len, cast)))", "range(len(cast[0]))")],
     "a line that the first ribbon alone has is left out": [("range(max(map(len, cast)))", "range(len(cast[1]))")],
@@ -98,7 +98,7 @@ NOTES |= {
     "of a setting of a text the first is tried": [("\"wedge\": wedge[\"wedge\"], **dict(trial)", "\"wedge\": wedge[\"wedge\"], **dict(list(trial)[::-1])")],
     "a text has the usual settings": [("{**dict.fromkeys(oracle.KEYS), ", "{\"measure\": 120, \"tight\": 38, \"loose\": 150, ")],
     "tried settings of a feed are not heard": [("{**meaning.settings, **dict(trial)}", "dict(meaning.settings)")],
-    "a picture in the place of a text or a feed": [("    spare(to, (source, case, wedge), \"picture\")", "    spare(to, (case, wedge), \"picture\")")],
+    "a picture in the place of a text or a feed": [("    spare(to, names, \"picture\")", "    spare(to, (case, wedge), \"picture\")")],
 }
 
 # Of what editors read.
