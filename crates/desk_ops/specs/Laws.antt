@@ -135,7 +135,8 @@ PlaceGivesWalk = (xs : List Insertion) (e : Insertion) (i : ℕ) → IsAscending
 -- an insert that is taken in by the scan, and the end of a drain: then the walk is the set's
 pub record DrainGivesWalk : Type 0 where
   pub step : (h : OpSet) → AllLawful h → (xs : List Insertion) → IsTakenIn h xs → (e : Insertion)
-      → Among e (clear_inserts (in_order h)) → AllByRecursion (λ x. same x.stamp e.stamp ≡ false) xs → IsThere xs e.parent
+      → Among e (clear_inserts (in_order h)) → AllByRecursion (λ x. same x.stamp e.stamp ≡ false) xs
+      → IsThere xs e.parent
       → IsTakenIn h (with_insert e xs) × (walk_from (with_insert e xs) head ≡ scan_insert e (walk_from xs head))
   pub done : (h : OpSet) → AllLawful h → (xs : List Insertion) → IsDrained h xs → walk_from xs head ≡ walk (in_order h)
 

@@ -59,6 +59,7 @@ hanging_on (Delete stamp target) kind = Some Void
 hanging_on (Set stamp key value) kind = Some Void
 
 -- what the first operations give
-pub record AreReported (ops : List Op) (i : ℕ) (hanging : List (Option FaultKind)) (faults : List CopyFault) : Type 0 where
+pub record AreReported (ops : List Op) (i : ℕ) (hanging : List (Option FaultKind)) (faults : List CopyFault)
+    : Type 0 where
   pub hanging_are : hanging ≡ ways_before ops i
   pub faults_are : faults ≡ faults_before ops i

@@ -201,8 +201,7 @@ impl<T: Copy, S: Summary<T>, A: Allocator + Copy> Pages<T, S, A> {
             &mut self.pages,
             &mut self.groups,
             &mut self.order,
-            p,
-            j,
+            (p, j),
             self.len,
             x,
         );
@@ -319,8 +318,7 @@ impl<T: Copy, S: Summary<T>, A: Allocator + Copy> Pages<T, S, A> {
             &mut self.pages,
             &mut self.groups,
             &mut self.order,
-            p,
-            j,
+            (p, j),
             self.len,
             x,
         );

@@ -260,32 +260,31 @@ fn room_at<T: Copy, S: Summary<T>, A: Allocator>(
     }
 }
 
-/// Puts an entry at the j-th place of page p, or behind all pages.
+/// Puts an entry at a page and a place in it, or behind all pages.
 pub fn put<T: Copy, S: Summary<T>, A: Allocator>(
     pages: &mut Shelf<T, S, A>,
     groups: &mut Groups<S, A>,
     order: &mut Vec<usize, A>,
-    p: usize,
-    j: usize,
+    at: (usize, usize),
     len: usize,
     x: T,
 )
     requires kept { IsKept pages.old.pages len (length pages.old.pages + pages.old.free) }
     requires groups { IsGroups S.sums_up pages.old.pages groups.old.starts.items groups.old.sums.items }
-    requires spot { IsSpotOrEnd pages.old.pages p j }
+    requires spot { IsSpotOrEnd pages.old.pages at.0 at.1 }
     requires spare { 1 ≤ spare_of pages.old.free (length pages.old.pages + pages.old.free) len }
     ensures kept { IsKept pages.new.pages (len + 1) (length pages.new.pages + pages.new.free) }
     ensures groups { IsGroups S.sums_up pages.new.pages groups.new.starts.items groups.new.sums.items }
-    ensures put { joined pages.new.pages ≡ insert (joined pages.old.pages) (start_of pages.old.pages p + j) x }
+    ensures put { joined pages.new.pages ≡ insert (joined pages.old.pages) (start_of pages.old.pages at.0 + at.1) x }
     ensures count { length pages.new.pages + pages.new.free ≡ length pages.old.pages + pages.old.free }
     ensures fewer { pages.old.free ≤ pages.new.free + 1 }
 {
-    match room_at(pages, p, j) {
+    match room_at(pages, at.0, at.1) {
         Some((q, k)) => put_inside(pages, groups, q, k, x),
         None => {
-            put_anywhere(pages, p, j, len, x);
-            find_groups(pages, groups, p.saturating_sub(1) / GROUP);
-            find_order(pages, order, p);
+            put_anywhere(pages, at.0, at.1, len, x);
+            find_groups(pages, groups, at.0.saturating_sub(1) / GROUP);
+            find_order(pages, order, at.0);
         }
     }
 }

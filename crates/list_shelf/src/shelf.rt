@@ -39,7 +39,10 @@ impl<T: Copy, S: Summary<T>, A: Allocator> Drop for Shelf<T, S, A> {
 impl<T: Copy, S: Summary<T>, A: Allocator> Model for Shelf<T, S, A> {
     ghost Value = { Shelved T };
 
-    ghost view = { λ s. record { pages = pages_of (framed (length s.heads.items + length s.free.items) s.cells.items) s.heads.items; free = s.all - length s.heads.items } };
+    ghost view = { λ s. record {
+      pages = pages_of (framed (length s.heads.items + length s.free.items) s.cells.items) s.heads.items;
+      free = s.all - length s.heads.items;
+    } };
 
     ghost invariant = { λ s. IsShelf S.sums_up s.cells.items s.heads.items s.free.items s.all
         × (s.all ≤ vec_capacity s.heads) × (256 * s.all ≤ vec_capacity s.cells) × (s.all ≤ vec_capacity s.free) };

@@ -47,7 +47,8 @@ pub fn put_turn<A: Allocator + Copy>(
     put_mark(out, style)
 }
 
-/// Writes a character, behind a backslash where it would be a mark. Where memory is refused the backslash may be written.
+/// Writes a character, behind a backslash where it would be a mark. Where memory is refused the backslash may be
+/// written.
 pub fn put_quoted<A: Allocator + Copy>(out: &mut String<A>, c: char) -> Result<(), AllocError>
     ensures { OnOk result (string_bytes out.new ≡ string_bytes out.old ++ encode_utf8_all (quoted c)) }
 {
