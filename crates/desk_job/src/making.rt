@@ -15,7 +15,7 @@ ghost use Rattle.desk_job.specs.Setting.{IsWord, line_at, words_at};
 ghost use Rattle.desk_job.specs.Making.{Adds, AreWordsOf, CanAdd, IsRange, all_lines, lines_at, paragraph_lines};
 
 use crate::punch::punch;
-use crate::setting::set_line;
+use crate::setting::{Measured, set_line};
 use crate::terms::Terms;
 use crate::{JobFault, JobFaults, JobRefusal};
 use desk_case::MatrixCase;
@@ -90,28 +90,34 @@ impl<A: Allocator + Copy> Making<A> {
         &mut self,
         alloc: A,
         terms: &Terms,
-        copy: &[Symbol],
-        words: &[Word],
-        widths: &[Atoms],
+        line: Measured<'_>,
         filled: bool,
     ) -> Result<(), NoMemory>
-        requires some { 1 ≤ length words.now }
-        requires number { length words.now ≤ most_words }
-        requires words { All (IsWord copy.now) words.now }
-        requires widths { widths.now ≡ job.widths terms.now (words_at copy.now words.now) }
-        requires within { AreWidths widths.now }
-        requires can_add { CanAdd terms.now (line_at copy.now words.now filled ∷ []) self.old }
-        ensures ok { OnOk result (Adds terms.now (line_at copy.now words.now filled ∷ []) self.old self.new) }
+        requires some { 1 ≤ length line.words.now }
+        requires number { length line.words.now ≤ most_words }
+        requires words { All (IsWord line.copy.now) line.words.now }
+        requires widths { line.widths.now ≡ job.widths terms.now (words_at line.copy.now line.words.now) }
+        requires within { AreWidths line.widths.now }
+        requires can_add { CanAdd terms.now (line_at line.copy.now line.words.now filled ∷ []) self.old }
+        ensures ok { OnOk result
+            (Adds terms.now (line_at line.entry.copy.now line.entry.words.now filled ∷ []) self.old self.new) }
         // After a fault a line without one takes no memory.
         ensures memory { IfErr result
-            (λ _. job.line_fault terms.now self.old.next (line_at copy.now words.now filled) ≡ []
+            (λ _. job.line_fault terms.now self.old.next (line_at line.entry.copy.now line.entry.words.now filled) ≡ []
             → self.old.faults ≡ []) }
     {
-        match set_line(terms, self.next, copy, words, widths, filled) {
+        match set_line(terms, self.next, line, filled) {
             Err(fault) => self.faults.push(fault)?,
             Ok(setting) => {
                 if self.faults.is_empty() {
-                    punch(&mut self.ribbon, alloc, terms, copy, words, &setting)?;
+                    punch(
+                        &mut self.ribbon,
+                        alloc,
+                        terms,
+                        line.copy,
+                        line.words,
+                        &setting,
+                    )?;
                 }
             }
         }
@@ -124,26 +130,28 @@ impl<A: Allocator + Copy> Making<A> {
         &mut self,
         alloc: A,
         terms: &Terms,
-        copy: &[Symbol],
-        words: &[Word],
-        widths: &[Atoms],
+        all: Measured<'_>,
         groups: &[Group],
     ) -> Result<(), NoMemory>
-        requires number { length words.now ≤ most_words }
-        requires words { All (IsWord copy.now) words.now }
-        requires widths { widths.now ≡ job.widths terms.now (words_at copy.now words.now) }
-        requires within { AreWidths widths.now }
-        requires ranges { All (IsRange (length words.now)) groups.now }
-        requires can_add { CanAdd terms.now (lines_at copy.now words.now groups.now) self.old }
-        ensures ok { OnOk result (Adds terms.now (lines_at copy.now words.now groups.now) self.old self.new) }
+        requires number { length all.words.now ≤ most_words }
+        requires words { All (IsWord all.copy.now) all.words.now }
+        requires widths { all.widths.now ≡ job.widths terms.now (words_at all.copy.now all.words.now) }
+        requires within { AreWidths all.widths.now }
+        requires ranges { All (IsRange (length all.words.now)) groups.now }
+        requires can_add { CanAdd terms.now (lines_at all.copy.now all.words.now groups.now) self.old }
+        ensures ok { OnOk result
+            (Adds terms.now (lines_at all.entry.copy.now all.entry.words.now groups.now) self.old self.new) }
         // No groups take no memory.
         ensures memory { IfErr result (λ _. 1 ≤ length groups.now) }
     {
         for (i, group) in groups.iter().enumerate() {
             let filled = is_filled(groups, i, group);
-            let these = &words[group.from..group.to];
-            let wide = &widths[group.from..group.to];
-            self.add_line(alloc, terms, copy, these, wide, filled)?;
+            let line = Measured {
+                copy: all.copy,
+                words: &all.words[group.from..group.to],
+                widths: &all.widths[group.from..group.to],
+            };
+            self.add_line(alloc, terms, line, filled)?;
         }
         Ok(())
     }
@@ -166,7 +174,12 @@ impl<A: Allocator + Copy> Making<A> {
     {
         let widths = word_widths(alloc, terms, copy, words)?;
         let groups = break_lines(alloc, &widths, terms.tight_space(), terms.measure())?;
-        self.add_groups(alloc, terms, copy, words, &widths, &groups)
+        let all = Measured {
+            copy,
+            words,
+            widths: &widths,
+        };
+        self.add_groups(alloc, terms, all, &groups)
     }
 
     /// Adds the lines of paragraphs.

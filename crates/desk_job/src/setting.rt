@@ -21,6 +21,14 @@ use desk_lines::Word;
 use desk_ops::Symbol;
 use desk_units::{Atoms, WedgeSum};
 
+/// Words of a copy, by their places there, and the width of each in atoms.
+#[derive(Clone, Copy)]
+pub struct Measured<'a> {
+    pub copy: &'a [Symbol],
+    pub words: &'a [Word],
+    pub widths: &'a [Atoms],
+}
+
 /// What a line is set by: whether a space was added, how often each fill is used, and the wedge sum.
 #[derive(Drop)]
 pub struct Setting {
@@ -149,21 +157,19 @@ pub fn spaces(words: usize, added: bool) -> usize
 pub fn set_line(
     terms: &Terms,
     n: usize,
-    copy: &[Symbol],
-    words: &[Word],
-    widths: &[Atoms],
+    line: Measured<'_>,
     filled: bool,
 ) -> Result<Setting, JobFault>
-    requires some { 1 ≤ length words.now }
-    requires number { length words.now ≤ most_words }
-    requires widths { widths.now ≡ job.widths terms.now (words_at copy.now words.now) }
-    requires within { AreWidths widths.now }
-    requires fits { Fits terms.now (line_at copy.now words.now filled) }
-    ensures { Sets terms.now n (line_at copy.now words.now filled) result }
+    requires some { 1 ≤ length line.words.now }
+    requires number { length line.words.now ≤ most_words }
+    requires widths { line.widths.now ≡ job.widths terms.now (words_at line.copy.now line.words.now) }
+    requires within { AreWidths line.widths.now }
+    requires fits { Fits terms.now (line_at line.copy.now line.words.now filled) }
+    ensures { Sets terms.now n (line_at line.entry.copy.now line.entry.words.now filled) result }
 {
-    let width = total(widths);
-    let added = has_added(terms, words.len(), width, filled);
-    let spaces = spaces(words.len(), added);
+    let width = total(line.widths);
+    let added = has_added(terms, line.words.len(), width, filled);
+    let spaces = spaces(line.words.len(), added);
     if spaces == 0 {
         return Err(JobFault::TooWide(n));
     }

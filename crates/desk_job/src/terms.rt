@@ -39,7 +39,13 @@ impl<'a> Model for Terms<'a> {
 
     ghost Value = { job.Terms };
 
-    ghost view = { λ t. record { case = t.case.now; wedge = t.wedge.now; points = t.points; tight = t.tight; loose = t.loose } };
+    ghost view = { λ t. record {
+      case = t.case.now;
+      wedge = t.wedge.now;
+      points = t.points;
+      tight = t.tight;
+      loose = t.loose;
+    } };
 
     ghost invariant = { λ t. IsUsable (record {
       case = t.case.now;

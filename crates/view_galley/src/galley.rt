@@ -16,13 +16,13 @@ ghost use Rattle.view_galley.specs.declared.galley.GalleyRefusal.TheVariants as 
 use crate::line::{Line, set_out};
 use desk_case::MatrixCase;
 use desk_job::making::{is_filled, lacking, word_widths};
+use desk_job::setting::Measured;
 use desk_job::terms::{Terms, Values};
 use desk_job::{JobFault, given};
 use desk_lines::{Group, Paragraph, Word, break_lines, paragraphs};
 use desk_memory::NoMemory;
 use desk_ops::{Key, Symbol};
 use desk_replica::Settings;
-use desk_units::Atoms;
 use desk_wedge::Wedge;
 use std::alloc::Allocator;
 use std::marker::Model;
@@ -144,24 +144,23 @@ fn add_groups<A: Allocator + Copy>(
     lines: &mut Vec<Line<A>, A>,
     alloc: A,
     terms: &Terms,
-    copy: &[Symbol],
-    words: &[Word],
-    widths: &[Atoms],
+    all: Measured<'_>,
     groups: &[Group],
 ) -> Result<(), NoMemory>
-    requires number { length words.now ≤ most_words }
-    requires widths { widths.now ≡ job.widths terms.now (words_at copy.now words.now) }
-    requires within { AreWidths widths.now }
-    requires ranges { All (IsRange (length words.now)) groups.now }
+    requires number { length all.words.now ≤ most_words }
+    requires widths { all.widths.now ≡ job.widths terms.now (words_at all.copy.now all.words.now) }
+    requires within { AreWidths all.widths.now }
+    requires ranges { All (IsRange (length all.words.now)) groups.now }
     ensures ok { OnOk result
-        (lines.new.items ≡ with_lines terms.now copy.now lines.old.items (placed_at words.now groups.now)) }
+        (lines.new.items
+        ≡ with_lines terms.now all.entry.copy.now lines.old.items (placed_at all.entry.words.now groups.now)) }
     // No groups take no memory.
     ensures memory { IfErr result (λ _. 1 ≤ length groups.now) }
 {
     for (i, group) in groups.iter().enumerate() {
         let filled = is_filled(groups, i, group);
         let number = lines.len() + 1;
-        let line = set_out(alloc, terms, number, copy, words, widths, group, filled)?;
+        let line = set_out(alloc, terms, number, all, group, filled)?;
         lines.push(line)?;
     }
     Ok(())
@@ -185,7 +184,12 @@ fn add_paragraph<A: Allocator + Copy>(
 {
     let widths = word_widths(alloc, terms, copy, words)?;
     let groups = break_lines(alloc, &widths, terms.tight_space(), terms.measure())?;
-    add_groups(lines, alloc, terms, copy, words, &widths, &groups)
+    let all = Measured {
+        copy,
+        words,
+        widths: &widths,
+    };
+    add_groups(lines, alloc, terms, all, &groups)
 }
 
 /// Adds the lines of paragraphs.

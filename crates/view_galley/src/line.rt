@@ -16,11 +16,10 @@ ghost use Rattle.desk_units.specs.WedgeSum.{greatest, least, pair_of};
 
 use arrayvec::ArrayVec;
 use desk_job::JobFault;
-use desk_job::setting::{fills, has_added, left, rest, spaces, total};
+use desk_job::setting::{Measured, fills, has_added, left, rest, spaces, total};
 use desk_job::terms::{Terms, whole};
 use desk_lines::{Group, Word};
 use desk_memory::NoMemory;
-use desk_ops::Symbol;
 use desk_signals::Position;
 use desk_units::{Atoms, WedgeSum, floor_steps};
 use std::alloc::Allocator;
@@ -264,27 +263,25 @@ pub fn set_out<A: Allocator>(
     alloc: A,
     terms: &Terms,
     number: usize,
-    copy: &[Symbol],
-    words: &[Word],
-    widths: &[Atoms],
+    all: Measured<'_>,
     group: &Group,
     filled: bool,
 ) -> Result<Line<A>, NoMemory>
-    requires number { length words.now ≤ most_words }
-    requires group { IsRange (length words.now) group.now }
-    requires widths { widths.now ≡ job.widths terms.now (words_at copy.now words.now) }
-    requires within { AreWidths widths.now }
+    requires number { length all.words.now ≤ most_words }
+    requires group { IsRange (length all.words.now) group.now }
+    requires widths { all.widths.now ≡ job.widths terms.now (words_at all.copy.now all.words.now) }
+    requires within { AreWidths all.widths.now }
     ensures { IfOk result
-        (λ line. line ≡ values_of terms.now copy.now number
+        (λ line. line ≡ values_of terms.now all.entry.copy.now number
         (record {
-          words = group_words words.now group.now;
+          words = group_words all.entry.words.now group.now;
           filled = filled;
           after = drop
-              (group.now).to words.now;
+              (group.now).to all.entry.words.now;
         })) }
 {
-    let these = &words[group.from..group.to];
-    let width = total(&widths[group.from..group.to]);
+    let these = &all.words[group.from..group.to];
+    let width = total(&all.widths[group.from..group.to]);
     let added = has_added(terms, these.len(), width, filled);
     let spaces = spaces(these.len(), added);
     let rest = rest(terms, width, spaces);
@@ -293,7 +290,7 @@ pub fn set_out<A: Allocator>(
     let wedge_sum = sum_at(left, spaces);
     let fault = fault_at(terms, number, filled, spaces, left);
     let free = free(terms, these.len(), width);
-    let next = next_word(free, &words[group.to..], &widths[group.to..]);
+    let next = next_word(free, &all.words[group.to..], &all.widths[group.to..]);
     Ok(Line {
         number,
         words: Vec::from_slice(alloc, these)?,

@@ -1,7 +1,8 @@
 //! The parts of a picture in the form SVG that any text needs: characters as XML has them, numbers, whole and with two
 //! decimals, and the end of a text.
 //!
-//! A reader of XML takes a carriage return in a text for a line feed, and a tab or line feed in an attribute for a space.
+//! A reader of XML takes a carriage return in a text for a line feed, and a tab or line feed in an attribute for a
+//! space.
 
 ghost use Rattle.std.specs.Prelude.{◌≡◌, ◌++◌, OnOk, string_bytes};
 ghost use Rattle.std.specs.Fmt.{decimal};

@@ -19,36 +19,36 @@ handed_on terms n line (Err e) fault is found = rw is found
 pub returns-then-spaces-eq0 : goal.returns-then-spaces-eq0
 returns-then-spaces-eq0 c =
     let terms = c.args.terms.now in
-    let words = words_at c.args.copy.now c.args.words.now in
-    let line = line_at c.args.copy.now c.args.words.now c.args.filled in
-    let m = measured_at terms c.args.copy.now c.args.words.now c.args.filled _ _ _ c.requires.some c.requires.widths c.total-width.ensures.value c.has_added-added.ensures in
-    too_wide terms c.args.n line _ (spaces_are terms words c.args.filled _ _ _ m (spaces_at c.args.copy.now c.args.words.now _ _ c.spaces-spaces.ensures)) c.if-spaces-eq0.true
+    let words = words_at c.args.line.copy.now c.args.line.words.now in
+    let line = line_at c.args.line.copy.now c.args.line.words.now c.args.filled in
+    let m = measured_at terms c.args.line.copy.now c.args.line.words.now c.args.filled _ _ _ c.requires.some c.requires.widths c.total-width.ensures.value c.has_added-added.ensures in
+    too_wide terms c.args.n line _ (spaces_are terms words c.args.filled _ _ _ m (spaces_at c.args.line.copy.now c.args.line.words.now _ _ c.spaces-spaces.ensures)) c.if-spaces-eq0.true
 
 pub line_sum-requires-clause-fits : goal.line_sum-requires-clause-fits
 line_sum-requires-clause-fits c =
     let terms = c.args.terms.now in
-    let words = words_at c.args.copy.now c.args.words.now in
-    let m = measured_at terms c.args.copy.now c.args.words.now c.args.filled _ _ _ c.requires.some c.requires.widths c.total-width.ensures.value c.has_added-added.ensures in
-    let h = numbers_are terms words c.args.filled _ _ _ _ _ _ _ m (spaces_at c.args.copy.now c.args.words.now _ _ c.spaces-spaces.ensures) c.rest-rest.ensures.value c.fills-fills.ensures.value (left_of _ _ _ _ _ c.as_slice.ensures.value c.left-left.ensures) refl in
+    let words = words_at c.args.line.copy.now c.args.line.words.now in
+    let m = measured_at terms c.args.line.copy.now c.args.line.words.now c.args.filled _ _ _ c.requires.some c.requires.widths c.total-width.ensures.value c.has_added-added.ensures in
+    let h = numbers_are terms words c.args.filled _ _ _ _ _ _ _ m (spaces_at c.args.line.copy.now c.args.line.words.now _ _ c.spaces-spaces.ensures) c.rest-rest.ensures.value c.fills-fills.ensures.value (left_of _ _ _ _ _ c.as_slice.ensures.value c.left-left.ensures) refl in
     reaches terms words c.args.filled _ c.requires.fits h.sum_found
 
 pub returns-in_err-sum : goal.returns-in_err-sum
 returns-in_err-sum c =
     let terms = c.args.terms.now in
-    let words = words_at c.args.copy.now c.args.words.now in
-    let line = line_at c.args.copy.now c.args.words.now c.args.filled in
-    let m = measured_at terms c.args.copy.now c.args.words.now c.args.filled _ _ _ c.requires.some c.requires.widths c.total-width.ensures.value c.has_added-added.ensures in
-    let h = numbers_are terms words c.args.filled _ _ _ _ _ _ _ m (spaces_at c.args.copy.now c.args.words.now _ _ c.spaces-spaces.ensures) c.rest-rest.ensures.value c.fills-fills.ensures.value (left_of _ _ _ _ _ c.as_slice.ensures.value c.left-left.ensures) refl in
+    let words = words_at c.args.line.copy.now c.args.line.words.now in
+    let line = line_at c.args.line.copy.now c.args.line.words.now c.args.filled in
+    let m = measured_at terms c.args.line.copy.now c.args.line.words.now c.args.filled _ _ _ c.requires.some c.requires.widths c.total-width.ensures.value c.has_added-added.ensures in
+    let h = numbers_are terms words c.args.filled _ _ _ _ _ _ _ m (spaces_at c.args.line.copy.now c.args.line.words.now _ _ c.spaces-spaces.ensures) c.rest-rest.ensures.value c.fills-fills.ensures.value (left_of _ _ _ _ _ c.as_slice.ensures.value c.left-left.ensures) refl in
     let k = faulted terms c.args.n line _ _ _ _ _ h (sym c.in_err-sum.ensures) in
     handed_on terms c.args.n line _ _ c.from_residual.ensures.1 k
 
 pub returns : goal.returns
 returns c =
     let terms = c.args.terms.now in
-    let words = words_at c.args.copy.now c.args.words.now in
-    let line = line_at c.args.copy.now c.args.words.now c.args.filled in
-    let m = measured_at terms c.args.copy.now c.args.words.now c.args.filled _ _ _ c.requires.some c.requires.widths c.total-width.ensures.value c.has_added-added.ensures in
-    let h = numbers_are terms words c.args.filled _ _ _ _ _ _ _ m (spaces_at c.args.copy.now c.args.words.now _ _ c.spaces-spaces.ensures) c.rest-rest.ensures.value c.fills-fills.ensures.value (left_of _ _ _ _ _ c.as_slice.ensures.value c.left-left.ensures) refl in (
+    let words = words_at c.args.line.copy.now c.args.line.words.now in
+    let line = line_at c.args.line.copy.now c.args.line.words.now c.args.filled in
+    let m = measured_at terms c.args.line.copy.now c.args.line.words.now c.args.filled _ _ _ c.requires.some c.requires.widths c.total-width.ensures.value c.has_added-added.ensures in
+    let h = numbers_are terms words c.args.filled _ _ _ _ _ _ _ m (spaces_at c.args.line.copy.now c.args.line.words.now _ _ c.spaces-spaces.ensures) c.rest-rest.ensures.value c.fills-fills.ensures.value (left_of _ _ _ _ _ c.as_slice.ensures.value c.left-left.ensures) refl in (
       record {
         added = h.added_found;
         fills = h.fills_found;

@@ -5,7 +5,7 @@ use Rattle.view_galley.proofs.line.set_out.Goals as goal
 
 pub returns : goal.returns
 returns g c =
-    set_out_is c.args.terms.now c.args.copy.now c.args.words.now c.args.widths.now c.args.group.now c.args.filled c.args.number c.total-width.result
+    set_out_is c.args.terms.now c.args.all.copy.now c.args.all.words.now c.args.all.widths.now c.args.group.now c.args.filled c.args.number c.total-width.result
     c.has_added-added.result c.spaces-spaces.result c.rest-rest.result c.fills-fills.result.items c.left-left.result c.free-free.result _
     (record {
       range = c.requires.group;
@@ -29,5 +29,5 @@ returns g c =
       fills_kept = refl;
       wedge_sum_kept = c.sum_at-wedge_sum.ensures;
       faults_kept = c.fault_at-fault.ensures;
-      next_kept = c.next_word-next.ensures ∙ next_rest c.free-free.result c.args.words.now c.args.widths.now c.args.group.now.to;
+      next_kept = c.next_word-next.ensures ∙ next_rest c.free-free.result c.args.all.words.now c.args.all.widths.now c.args.group.now.to;
     })
