@@ -1,5 +1,5 @@
 -- Worked lines.
-use Rattle.std.specs.Prelude.{◌≡◌, ℕ, List, [], ◌∷◌, Option, Some, None, refl, codes, map}
+use Rattle.std.specs.Prelude.{◌≡◌, ℕ, List, [], ◌∷◌, ◌++◌, Option, Some, None, refl, codes, map}
 use Rattle.std.specs.Str.{chars, is_utf8}
 use Rattle.std.proofs.Math.Utf8.{encode}
 use Rattle.desk_ops.specs.declared.op.Key.TheVariants as keys
@@ -18,7 +18,8 @@ command_on Long = None
 commands : List ℕ → List (Option CommandValues)
 commands input = map command_on (lines input)
 
-two_sites : commands (codes "site 1\nsite 2\r\ninsert 1 0 r\"ab\"\nsend 1 2\nshow 1\nshow 2\nfeed 2")
+two_sites : commands
+    (codes "site 1\nsite 2\r\ninsert 1 0 r\"ab\"\nsend 1 2\nshow 1\nshow 2\nfeed 2")
     ≡ Some (Site 1) ∷ Some (Site 2) ∷ Some (Insert 1 0 (symbol Roman 97 ∷ symbol Roman 98 ∷ [])) ∷ Some (Send 1 2 None)
     ∷ Some (Show 1) ∷ Some (Show 2) ∷ Some (Feed 2) ∷ []
 unfolding encode commands command_on command_of is_utf8 chars words_of word_at verb_of one_site number_at number_of
@@ -26,7 +27,8 @@ unfolding encode commands command_on command_of is_utf8 chars words_of word_at v
 two_sites = refl
 
 refused_later : commands
-    (codes "site 1\nsite 0\nsend 1 3\ninsert 1 5 r\"a\"\ninsert 1 0 i\" \"\nset 1 measure 11\njump\nribbon 1 none.toml w\n")
+    (codes "site 1\nsite 0\nsend 1 3\ninsert 1 5 r\"a\"\ninsert 1 0 i\" \"\n"
+    ++ codes "set 1 measure 11\njump\nribbon 1 none.toml w\n")
     ≡ Some (Site 1) ∷ Some (Site 0) ∷ Some (Send 1 3 None) ∷ Some (Insert 1 5 (symbol Roman 97 ∷ [])) ∷ Some
     (Insert 1 0 (symbol Italic 32 ∷ []))
     ∷ Some (SetTo 1 keys.Measure 11) ∷ None ∷ Some (Ribbon 1 (codes "none.toml") (codes "w")) ∷ []
@@ -36,7 +38,9 @@ refused_later = refl
 
 -- lines of no command's form, and some of its edges
 edges : commands
-    (codes "\n show 1\nshow  1\nshow 1 \nshow 00000000001\nshow 0000000001\nshow 4294967296\nshow 4294967295\ninsert 1 0\ninsert 1 0 \ninsert 1 0 r\"\"\ninsert 1 0 r\"a\"i\"b\"\ninsert 1 0 r\"a\\\"\\n\" i\"b\"\nsend 1 2 0..x\nsend 1 2 3..2\ntake 9 4d4\ntake 9 4D4f")
+    (codes "\n show 1\nshow  1\nshow 1 \nshow 00000000001\nshow 0000000001\nshow 4294967296\nshow 4294967295\n"
+    ++ codes "insert 1 0\ninsert 1 0 \ninsert 1 0 r\"\"\ninsert 1 0 r\"a\"i\"b\"\ninsert 1 0 r\"a\\\"\\n\" i\"b\"\n"
+    ++ codes "send 1 2 0..x\nsend 1 2 3..2\ntake 9 4d4\ntake 9 4D4f")
     ≡ None ∷ None ∷ None ∷ None ∷ None ∷ Some (Show 1) ∷ None ∷ Some (Show 4294967295) ∷ None ∷ None ∷ None ∷ None
     ∷ Some (Insert 1 0 (symbol Roman 97 ∷ symbol Roman 34 ∷ symbol Roman 10 ∷ symbol Italic 98 ∷ [])) ∷ None ∷ Some
     (Send 1 2 (Some (3, 2))) ∷ None

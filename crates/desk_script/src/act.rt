@@ -173,21 +173,28 @@ fn feed<A: Allocator + Copy>(world: &World<A>, site: u32) -> Result<Reply<A>, No
     Ok(Reply::Feed(feed))
 }
 
+/// The copy of a site that is to be cast, and the names of the two files for that.
+#[derive(Clone, Copy)]
+struct Job<'a> {
+    site: u32,
+    case: &'a str,
+    wedge: &'a str,
+}
+
 /// The job of a site's copy by two files.
 fn job_at<F: Files, A: Allocator + Copy>(
     memory: Memory<A>,
     world: &World<A>,
     files: &mut F,
-    site: u32,
-    case: &str,
-    wedge: &str,
+    job: Job<'_>,
     wanted: Wanted,
 ) -> Result<Reply<A>, NotDone>
-    ensures made { Jobs wanted (desk world.now (F.shelf files.old)) site case.now wedge.now (reply_to result)
-        (desk world.now (F.shelf files.new))
+    ensures made { Jobs wanted (desk world.now (F.shelf files.old)) job.entry.site job.entry.case.now
+        job.entry.wedge.now (reply_to result) (desk world.now (F.shelf files.new))
         ⊎ LacksMemory (desk world.now (F.shelf files.old)) (reply_to result) (desk world.now (F.shelf files.new)) }
     ensures stays { Stays (F.shelf files.old) (F.shelf files.new) }
 {
+    let Job { site, case, wedge } = job;
     let replica = replica_of(world, site)?;
     Ok(job_by_files(memory, replica, files, case, wedge, wanted)?)
 }
@@ -216,10 +223,22 @@ pub fn act<F: Files, A: Allocator + Copy>(
         Command::Settings(site) => settings(world, site),
         Command::Feed(site) => feed(world, site),
         Command::Ribbon { site, case, wedge } => {
-            job_at(memory, world, files, site, case, wedge, Wanted::Ribbon)
+            job_at(
+                memory,
+                world,
+                files,
+                Job { site, case, wedge },
+                Wanted::Ribbon,
+            )
         }
         Command::Cast { site, case, wedge } => {
-            job_at(memory, world, files, site, case, wedge, Wanted::Lines)
+            job_at(
+                memory,
+                world,
+                files,
+                Job { site, case, wedge },
+                Wanted::Lines,
+            )
         }
         Command::Restart(site) => restart(world, site),
     }

@@ -7,8 +7,8 @@ ghost use Rattle.desk_ops.specs.OpSet.{OpSet};
 ghost use Rattle.feed_files.specs.Files.{HasFailed, IsHeldAlone, Stays};
 ghost use Rattle.feed_stored.specs.Stored.{was_read};
 ghost use Rattle.desk_script.specs.Desk.{desk};
-ghost use Rattle.desk_script.specs.FeedRun.{AnswersStored, IsBarred, IsOpened, IsStoppedBy, IsStoppedOnFeed, IsStoredBy};
-ghost use Rattle.desk_script.specs.FeedRun.{LeavesOffBy};
+ghost use Rattle.desk_script.specs.FeedRun.{AnswersStored, IsBarred, IsOpened, IsStoppedBy, IsStoppedOnFeed};
+ghost use Rattle.desk_script.specs.FeedRun.{IsStoredBy, LeavesOffBy};
 ghost use Rattle.desk_script.specs.Room.{AnswersInRoom, IsStoppedInRoom};
 ghost use Rattle.desk_script.specs.StoredSheet as sheets;
 
@@ -23,14 +23,21 @@ use script_world::World;
 use std::alloc::{Allocator, Global};
 use std::io::{Read, Write};
 
+/// A stored feed that a room works on.
+#[derive(Clone, Copy)]
+pub struct Room<'a> {
+    /// The name of the feed's file.
+    pub feed: &'a str,
+    /// The site that works on it.
+    pub site: u16,
+    /// Whether the feed may hold less of the site than this room has made there.
+    pub older: bool,
+}
+
 /// A stored feed that a run works on.
 #[derive(Clone, Copy)]
 struct Feed<'a> {
-    name: &'a str,
-    /// The site that works on it.
-    site: u16,
-    /// Whether it may hold less of the site than this room has made there.
-    older: bool,
+    room: Room<'a>,
     /// Whether the room keeps how far the site has come.
     marks: bool,
 }
@@ -81,14 +88,14 @@ fn on_feed<R: Read, W: Write, F: Files, A: Allocator + Copy>(
     writer: &mut W,
     files: &mut F,
 ) -> Result<(), SheetFault>
-    requires { 1 ≤ feed.site }
+    requires { 1 ≤ feed.room.site }
     ensures ok { OnOk result
-        (IsStoredBy mode feed.entry.name.now feed.entry.site feed.entry.older feed.entry.marks (F.shelf files.old)
+        (IsStoredBy mode feed.entry.room.feed.now feed.entry.room.site feed.entry.room.older feed.entry.marks (F.shelf files.old)
         (F.shelf files.new) (R.remaining reader.old) (W.contents writer.old) (W.contents writer.new)) }
     ensures err { IfErr result
-        (IsStoppedBy mode feed.entry.name.now feed.entry.site feed.entry.older (F.shelf files.old) (F.shelf files.new)
+        (IsStoppedBy mode feed.entry.room.feed.now feed.entry.room.site feed.entry.room.older (F.shelf files.old) (F.shelf files.new)
         (R.remaining reader.old) (W.contents writer.old) (W.contents writer.new)) }
-    ensures held { IsHeldAlone feed.entry.name.now (F.shelf files.old) (F.shelf files.new)
+    ensures held { IsHeldAlone feed.entry.room.feed.now (F.shelf files.old) (F.shelf files.new)
         ⊎ ((reader.new ≡ reader.old) × (writer.new ≡ writer.old) × Stays (F.shelf files.old) (F.shelf files.new)) }
     ensures end { OnOk result (IsAtEnd (R.remaining reader.new)) }
     ensures left { IfErr result (LeavesOffBy mode (R.remaining reader.old) (R.remaining reader.new)) }
@@ -96,16 +103,13 @@ fn on_feed<R: Read, W: Write, F: Files, A: Allocator + Copy>(
         → (reader.new ≡ reader.old) × (writer.new ≡ writer.old)) }
 {
     let alloc = memory.own;
-    let Feed { name, site, .. } = feed;
+    let Room {
+        feed: name,
+        site,
+        older,
+    } = feed.room;
     let (old, mut world) = take_feed(alloc, files, name, site)?;
-    let_in(
-        alloc,
-        files,
-        name,
-        &old,
-        replica_at(&world, site),
-        feed.older,
-    )?;
+    let_in(alloc, files, name, &old, replica_at(&world, site), older)?;
     answer_lines(memory, mode, &mut world, reader, writer, files)?;
     let replica = replica_at(&world, site);
     keep_replica(alloc, replica, files, name, &old)?;
@@ -143,12 +147,12 @@ pub fn run_on_feed<R: Read, W: Write, F: Files, A: Allocator + Copy>(
         → HasFailed (F.shelf files.old) (F.shelf files.new) }
     ensures end { OnOk result (IsAtEnd (R.remaining reader.new)) }
 {
-    let feed = Feed {
-        name,
+    let room = Room {
+        feed: name,
         site,
         older: true,
-        marks: false,
     };
+    let feed = Feed { room, marks: false };
     let memory = Memory { own: alloc, global };
     match on_feed(memory, None, feed, reader, writer, files) {
         Ok(()) => Ok(()),
@@ -163,23 +167,20 @@ pub fn run_on_feed<R: Read, W: Write, F: Files, A: Allocator + Copy>(
 /// changes. `older` lets such a feed in. Once the feed was stored FEED.last has the greatest counter that it holds of
 /// the site; where that file cannot be written it is as it was.
 pub fn run_in_room<R: Read, W: Write, F: Files, A: Allocator + Copy>(
-    alloc: A,
-    global: Global,
+    memory: Memory<A>,
     reader: &mut R,
     writer: &mut W,
     files: &mut F,
-    name: &str,
-    site: u16,
-    older: bool,
+    room: Room<'_>,
 ) -> Result<(), RoomFault>
-    requires { 1 ≤ site }
+    requires { 1 ≤ room.site }
     ensures ok { OnOk result
-        (AnswersInRoom name.now site older (F.shelf files.old) (F.shelf files.new) (R.remaining reader.old)
+        (AnswersInRoom room.entry (F.shelf files.old) (F.shelf files.new) (R.remaining reader.old)
         (W.contents writer.old) (W.contents writer.new)) }
     ensures err { IfErr result
-        (IsStoppedInRoom name.now site older (F.shelf files.old) (F.shelf files.new) (R.remaining reader.old)
+        (IsStoppedInRoom room.entry (F.shelf files.old) (F.shelf files.new) (R.remaining reader.old)
         (W.contents writer.old) (W.contents writer.new)) }
-    ensures held { IsHeldAlone name.now (F.shelf files.old) (F.shelf files.new)
+    ensures held { IsHeldAlone room.entry.feed.now (F.shelf files.old) (F.shelf files.new)
         ⊎ ((reader.new ≡ reader.old) × (writer.new ≡ writer.old) × Stays (F.shelf files.old) (F.shelf files.new)) }
     ensures device { IsErrOf result (RoomFault.Run (RunFault.File FileRefusal.Device))
         → HasFailed (F.shelf files.old) (F.shelf files.new) }
@@ -187,13 +188,7 @@ pub fn run_in_room<R: Read, W: Write, F: Files, A: Allocator + Copy>(
     ensures unread { IfErr result (λ fault. (made had : ℕ) → fault ≡ RoomFault.Older made had
         → (reader.new ≡ reader.old) × (writer.new ≡ writer.old)) }
 {
-    let feed = Feed {
-        name,
-        site,
-        older,
-        marks: true,
-    };
-    let memory = Memory { own: alloc, global };
+    let feed = Feed { room, marks: true };
     match on_feed(memory, None, feed, reader, writer, files) {
         Ok(()) => Ok(()),
         Err(SheetFault::Run(fault)) => Err(RoomFault::Run(fault)),
@@ -210,34 +205,25 @@ pub fn run_in_room<R: Read, W: Write, F: Files, A: Allocator + Copy>(
 /// can be written. Where a line stopped the run, or anything failed before that, nothing is stored and no file has
 /// changed; where the feed was not stored, none but `name.new`. The name stays taken until the files end.
 pub fn run_sheet_on_feed<R: Read, W: Write, F: Files, A: Allocator + Copy>(
-    alloc: A,
-    global: Global,
+    memory: Memory<A>,
     mode: Mode,
     reader: &mut R,
     writer: &mut W,
     files: &mut F,
-    name: &str,
-    site: u16,
-    older: bool,
+    room: Room<'_>,
 ) -> Result<(), SheetFault>
-    requires { 1 ≤ site }
+    requires { 1 ≤ room.site }
     ensures ok { OnOk result
-        (sheets.IsStoredSheet mode name.now site older (F.shelf files.old) (F.shelf files.new) (R.remaining reader.old)
+        (sheets.IsStoredSheet mode room.entry (F.shelf files.old) (F.shelf files.new) (R.remaining reader.old)
         (W.contents writer.old) (W.contents writer.new)) }
     ensures err { IfErr result
-        (sheets.IsStoppedOnFeed mode name.now site older (F.shelf files.old) (F.shelf files.new)
+        (sheets.IsStoppedOnFeed mode room.entry (F.shelf files.old) (F.shelf files.new)
         (R.remaining reader.old) (W.contents writer.old) (W.contents writer.new)) }
-    ensures held { IsHeldAlone name.now (F.shelf files.old) (F.shelf files.new)
+    ensures held { IsHeldAlone room.entry.feed.now (F.shelf files.old) (F.shelf files.new)
         ⊎ ((reader.new ≡ reader.old) × (writer.new ≡ writer.old) × Stays (F.shelf files.old) (F.shelf files.new)) }
     ensures end { OnOk result (IsAtEnd (R.remaining reader.new)) }
     ensures left { IfErr result (LeavesOffBy (Some mode) (R.remaining reader.old) (R.remaining reader.new)) }
 {
-    let feed = Feed {
-        name,
-        site,
-        older,
-        marks: true,
-    };
-    let memory = Memory { own: alloc, global };
+    let feed = Feed { room, marks: true };
     on_feed(memory, Some(mode), feed, reader, writer, files)
 }

@@ -29,11 +29,11 @@ mod stream;
 // The names of what a script is made of stay reachable from here, used in the repository or not.
 pub use fault::{RoomFault, RunFault};
 pub use feed_files::{FileRefusal, Files, MAX_FILE, NoFiles, store, trial};
-pub use feed_run::{run_in_room, run_on_feed, run_sheet_on_feed};
+pub use feed_run::{Room, run_in_room, run_on_feed, run_sheet_on_feed};
 pub use line::{MAX_LINE, answer};
 pub use script_answers::{
-    Command, ParseError, Refusal, Reply, copy_is_its_spelling, copy_is_read_again, parse, put,
-    runs_are_longest,
+    Command, Memory, ParseError, Refusal, Reply, copy_is_its_spelling, copy_is_read_again, parse,
+    put, runs_are_longest,
 };
 pub use script_world::{Answer, Event, MAX_SITES, StepRefusal, World};
 pub use sheet::{MAX_SHEET, Mode, run_sheet};

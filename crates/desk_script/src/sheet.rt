@@ -1,7 +1,7 @@
 //! A sheet on a world of sites.
 
-ghost use Rattle.std.specs.Prelude.{◌≡◌, ◌<◌, ◌++◌, ◌∷◌, [], Bool, IfErr, IfOk, IfSome, MatchBool, MatchOption, OnErr, OnOk};
-ghost use Rattle.std.specs.Prelude.{length, string_bytes};
+ghost use Rattle.std.specs.Prelude.{◌≡◌, ◌<◌, ◌++◌, ◌∷◌, [], Bool, IfErr, IfOk, IfSome, MatchBool, MatchOption};
+ghost use Rattle.std.specs.Prelude.{OnErr, OnOk, length, string_bytes};
 ghost use Rattle.std.specs.Io.KnownBytes.{IsAtEnd};
 ghost use Rattle.script_answers.specs.Reply.{reply_values};
 ghost use Rattle.feed_files.specs.Files.{Stays};
@@ -99,6 +99,13 @@ fn put_answer<A: Allocator + Copy>(
     reported.push_str("\n")
 }
 
+/// A line of a sheet, and its number.
+#[derive(Clone, Copy)]
+struct Numbered<'a> {
+    number: u64,
+    line: &'a [u8],
+}
+
 /// Answers a line, or passes over it, and writes the answer at the end. Returns whether the run goes on.
 fn report_line<F: Files, A: Allocator + Copy>(
     memory: Memory<A>,
@@ -106,17 +113,17 @@ fn report_line<F: Files, A: Allocator + Copy>(
     world: &mut World<A>,
     files: &mut F,
     reported: &mut String<A>,
-    number: u64,
-    line: &[u8],
+    at: Numbered<'_>,
 ) -> Result<bool, NoMemory>
     ensures ok { IfOk result (λ (goes_on : Bool). MatchBool goes_on
-        (Reports mode number (desk world.old (F.shelf files.old)) (string_bytes reported.old) (line_of line.now)
-        (desk world.new (F.shelf files.new)) (string_bytes reported.new))
-        (Stops mode number (desk world.old (F.shelf files.old)) (string_bytes reported.old) (line_of line.now)
-        (desk world.new (F.shelf files.new)) (string_bytes reported.new))) }
+        (Reports mode at.entry.number (desk world.old (F.shelf files.old)) (string_bytes reported.old)
+        (line_of at.entry.line.now) (desk world.new (F.shelf files.new)) (string_bytes reported.new))
+        (Stops mode at.entry.number (desk world.old (F.shelf files.old)) (string_bytes reported.old)
+        (line_of at.entry.line.now) (desk world.new (F.shelf files.new)) (string_bytes reported.new))) }
     ensures sites { KeepsSites world.old world.new }
     ensures stays { Stays (F.shelf files.old) (F.shelf files.new) }
 {
+    let Numbered { number, line } = at;
     if mode.strict && is_passed_over(line) {
         return Ok(true);
     }
@@ -145,7 +152,8 @@ fn report_lines<F: Files, A: Allocator + Copy>(
     let mut number = 0;
     'lines: while let Some((line, more)) = next_line(rest) {
         number += 1;
-        if !report_line(memory, mode, world, files, reported, number, line)? {
+        let at = Numbered { number, line };
+        if !report_line(memory, mode, world, files, reported, at)? {
             return Ok(Some(number));
         }
         rest = more;
@@ -164,8 +172,8 @@ fn answer_sheet<R: Read, W: Write, F: Files, A: Allocator + Copy>(
     files: &mut F,
 ) -> Result<Option<u64>, RunFault>
     ensures ok { IfOk result
-        (IsWritten mode (desk world.old (F.shelf files.old)) (desk world.new (F.shelf files.new)) (R.remaining reader.old)
-        (W.contents writer.old) (W.contents writer.new)) }
+        (IsWritten mode (desk world.old (F.shelf files.old)) (desk world.new (F.shelf files.new))
+        (R.remaining reader.old) (W.contents writer.old) (W.contents writer.new)) }
     ensures err { IfErr result
         (IsUnanswered mode (desk world.old (F.shelf files.old)) (desk world.new (F.shelf files.new))
         (R.remaining reader.old) (W.contents writer.old) (W.contents writer.new)) }

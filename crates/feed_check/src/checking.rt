@@ -42,8 +42,8 @@ fn unread<A: Allocator + Copy>(alloc: A, why: FileRefusal) -> Result<Reported<A>
     Ok(Reported { text, well: false })
 }
 
-/// What is said of bytes, as those of a room's file where they have its name, and else by their kind; and what they give
-/// for a cast.
+/// What is said of bytes, as those of a room's file where they have its name, and else by their kind; and what they
+/// give for a cast.
 #[tactic(auto, unfolding(crate::specs::Checking::SaysNamed, crate::specs::Checking::found_under))]
 fn reported_by<A: Allocator + Copy>(
     memory: Memory<A>,
@@ -136,10 +136,10 @@ fn both(before: bool, one: bool) -> bool
 }
 
 /// Checks files by their names, in their order. Each has one line, written before the next file is read: what is in it
-/// as a feed, a ribbon, a case or a wedge, by its content, or as a room's file, by its name, or its first fault, or that it is none of these, or why it
-/// was not read. Where exactly one is a case in order and exactly one a wedge in order, and they do not go together, a
-/// last line says so. It is true exactly where every file is in order and there is no such line. No name is taken, and
-/// no file changes.
+/// as a feed, a ribbon, a case or a wedge, by its content, or as a room's file, by its name, or its first fault, or that
+/// it is none of these, or why it was not read. Where exactly one is a case in order and exactly one a wedge in order,
+/// and they do not go together, a last line says so. It is true exactly where every file is in order and there is no
+/// such line. No name is taken, and no file changes.
 pub fn check_files<W: Write, F: Files, A: Allocator + Copy>(
     memory: Memory<A>,
     writer: &mut W,

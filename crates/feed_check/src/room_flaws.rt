@@ -2,8 +2,8 @@
 
 ghost use Rattle.std.specs.Prelude.{◌≡◌, ◌++◌, IfOk, OnOk, option_map, string_bytes};
 ghost use Rattle.toml.specs.View.{table_view, view};
-ghost use Rattle.feed_check.specs.RoomFlaws.{first_flaw, flaw_at, flaw_in, flaw_of, flaw_words, key_named, known_unless, unknown};
-ghost use Rattle.feed_check.specs.RoomFlaws.{place_words, setting_flaw, sets_flaw, why_words};
+ghost use Rattle.feed_check.specs.RoomFlaws.{first_flaw, flaw_at, flaw_in, flaw_of, flaw_words, key_named};
+ghost use Rattle.feed_check.specs.RoomFlaws.{known_unless, place_words, setting_flaw, sets_flaw, unknown, why_words};
 ghost use Rattle.feed_check.specs.RoomOptions.{};
 
 use crate::room_options::{file_of, site_of, value_of};

@@ -6,18 +6,20 @@ use Rattle.feed_files.specs.Files.{Shelf}
 use Rattle.desk_ops.specs.declared.op.Symbol.{Symbol}
 use Rattle.feed_edit.specs.Importing.{IsReadAs, IsReadOut, IsUnimported, IsUnspared, LeavesOff, RefusesText}
 use Rattle.feed_edit.specs.Room.{IsOpenedHere}
+use Rattle.feed_edit.specs.declared.room.Room.{Room}
+use Rattle.feed_edit.specs.declared.importing.ImportMode.{ImportMode}
 use Rattle.feed_edit.specs.declared.fault.ImportFault.{ImportFault}
 use Rattle.feed_edit.specs.declared.fault.ImportFault.TheVariants as imports
 
 -- where the text is refused nothing was written
-pub unimported : (name : List ℕ) (site : ℕ) (older plain all : Bool) (first last : Shelf) (read : Option (List ℕ)) (old : OpSet) (input now : Option (List ℕ)) (why : ImportFault) → IsOpenedHere name site older first last read old
-    → RefusesText site plain all input old why → IsUnimported name site older plain all first last input now now why
-unimported name site older plain all first last read old input now (imports.Take why) opened never = absurd never
-unimported name site older plain all first last read old input now (imports.Last why) opened never = absurd never
-unimported name site older plain all first last read old input now (imports.Input why) opened none = (refl, read, old, opened, none)
-unimported name site older plain all first last read old input now (imports.Revision why) opened (text, is, set, none, value) = (refl, read, old, opened, text, is, set, none, value)
-unimported name site older plain all first last read old input now (imports.Wipes deleted of) opened (text, is, wipes) = (refl, read, old, opened, text, is, wipes)
-unimported name site older plain all first last read old input now (imports.Keep why) opened never = absurd never
+pub unimported : (room : Room) (mode : ImportMode) (first last : Shelf) (read : Option (List ℕ)) (old : OpSet) (input now : Option (List ℕ)) (why : ImportFault) → IsOpenedHere room first last read old
+    → RefusesText room.site mode.plain mode.all input old why → IsUnimported room mode first last input now now why
+unimported room mode first last read old input now (imports.Take why) opened never = absurd never
+unimported room mode first last read old input now (imports.Last why) opened never = absurd never
+unimported room mode first last read old input now (imports.Input why) opened none = (refl, read, old, opened, none)
+unimported room mode first last read old input now (imports.Revision why) opened (text, is, set, none, value) = (refl, read, old, opened, text, is, set, none, value)
+unimported room mode first last read old input now (imports.Wipes deleted of) opened (text, is, wipes) = (refl, read, old, opened, text, is, wipes)
+unimported room mode first last read old input now (imports.Keep why) opened never = absurd never
 
 -- nor was anything where the copy is not made a text that was read
 pub unspared : (site : ℕ) (plain all : Bool) (input : Option (List ℕ)) (old : OpSet) (text : List Symbol) (why : ImportFault) → IsReadAs plain input text → IsUnspared site all old text why → RefusesText site plain all input old why

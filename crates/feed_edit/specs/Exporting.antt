@@ -44,9 +44,9 @@ abbrev pub IsExported : Version → Shelf → Option (List ℕ) → Option (List
 IsExported version first before after = (set : OpSet) × IsVersion version first set
     × Appends before after (text_bytes (copy_of set))
 
--- why the feed of a file is not opened: it is missing or was not read; it is no feed; or of its operations, of all or of
--- those up to a counter, there are more than a replica holds; or memory ran out once its bytes were read, and they are
--- such that memory is asked for
+-- why the feed of a file is not opened: it is missing or was not read; it is no feed; or of its operations, of all or
+-- of those up to a counter, there are more than a replica holds; or memory ran out once its bytes were read, and they
+-- are such that memory is asked for
 abbrev pub IsClosedUntil : Option ℕ → List ℕ → Shelf → Shelf → FeedTrouble → Type 0
 IsClosedUntil until name before after (troubles.File why) = Reads (before.kept name) (Err why)
     × IsCounted why before after

@@ -14,6 +14,8 @@ use Rattle.feed_edit.specs.Keeping.{IsKept, IsUnkept, edited_line}
 use Rattle.feed_edit.specs.Merging.{IsBarred, IsOpened}
 use Rattle.feed_edit.specs.Room.{IsBarredHere, IsOpenedHere}
 use Rattle.feed_stored.specs.Room.{IsMarked}
+use Rattle.feed_edit.specs.declared.room.Room.{Room}
+use Rattle.feed_edit.specs.declared.importing.ImportMode.{ImportMode}
 use Rattle.feed_edit.specs.declared.fault.InputFault.{InputFault}
 use Rattle.feed_edit.specs.declared.fault.InputFault.TheVariants as inputs
 use Rattle.feed_edit.specs.declared.fault.RevisionFault.TheVariants as revisions
@@ -107,13 +109,13 @@ RefusesText site plain all input old (imports.Keep why) = ⊥
 
 -- The set is that of the stored feed, which was let in, with operations of the site that make its copy the text. The
 -- line was written, its feed stands under the name, and FEED.last has its greatest counter, or is as it was.
-abbrev pub IsImported : List ℕ → ℕ → Bool → Bool → Bool → Shelf → Shelf → Option (List ℕ) → Option (List ℕ)
-    → Option (List ℕ) → Type 0
-IsImported name site older plain all first last input before after =
-    (opened : Shelf) × (read : Option (List ℕ)) × (old : OpSet) × IsOpenedHere name site older first opened read old
-    × (set : OpSet) × (inserted deleted : ℕ) × TakesText site plain all input old set inserted deleted
-    × (stored : Shelf) × IsKept name set (edited_line inserted deleted) read opened stored before after
-    × IsMarked name site set stored last
+abbrev pub IsImported : Room → ImportMode → Shelf → Shelf → Option (List ℕ) → Option (List ℕ) → Option (List ℕ)
+    → Type 0
+IsImported room mode first last input before after =
+    (opened : Shelf) × (read : Option (List ℕ)) × (old : OpSet) × IsOpenedHere room first opened read old
+    × (set : OpSet) × (inserted deleted : ℕ) × TakesText room.site mode.plain mode.all input old set inserted deleted
+    × (stored : Shelf) × IsKept (room.feed).now set (edited_line inserted deleted) read opened stored before after
+    × IsMarked (room.feed).now room.site set stored last
 
 -- unless that is asked for, not most of the copy of the stored feed was deleted to make it the text
 abbrev pub SparesCopy : List ℕ → Bool → Shelf → Option (List ℕ) → Option (List ℕ) → Option (List ℕ) → Type 0
@@ -124,26 +126,26 @@ SparesCopy name plain first input before after =
 
 -- Why an import stopped, and what it left. Until the copy was made the text nothing was written, and the files are as
 -- they were when the feed was let in. No edit is refused for its value, since what is read is lawful.
-abbrev pub IsUnimported : List ℕ → ℕ → Bool → Bool → Bool → Shelf → Shelf → Option (List ℕ) → Option (List ℕ)
-    → Option (List ℕ) → ImportFault → Type 0
-IsUnimported name site older plain all first last input before after (imports.Take why) =
-    (after ≡ before) × IsBarred name first last why
-IsUnimported name site older plain all first last input before after (imports.Last why) =
-    (after ≡ before) × IsBarredHere name site older first last why
-IsUnimported name site older plain all first last input before after (imports.Input why) =
-    (after ≡ before) × (read : Option (List ℕ)) × (old : OpSet) × IsOpenedHere name site older first last read old
-    × IsNoText plain input why
-IsUnimported name site older plain all first last input before after (imports.Revision why) =
-    (after ≡ before) × (read : Option (List ℕ)) × (old : OpSet) × IsOpenedHere name site older first last read old
-    × (text : List Symbol) × IsReadAs plain input text × (now : OpSet) × IsUnrevised site old now text why
+abbrev pub IsUnimported : Room → ImportMode → Shelf → Shelf → Option (List ℕ) → Option (List ℕ) → Option (List ℕ)
+    → ImportFault → Type 0
+IsUnimported room mode first last input before after (imports.Take why) =
+    (after ≡ before) × IsBarred (room.feed).now first last why
+IsUnimported room mode first last input before after (imports.Last why) =
+    (after ≡ before) × IsBarredHere room first last why
+IsUnimported room mode first last input before after (imports.Input why) =
+    (after ≡ before) × (read : Option (List ℕ)) × (old : OpSet) × IsOpenedHere room first last read old
+    × IsNoText mode.plain input why
+IsUnimported room mode first last input before after (imports.Revision why) =
+    (after ≡ before) × (read : Option (List ℕ)) × (old : OpSet) × IsOpenedHere room first last read old
+    × (text : List Symbol) × IsReadAs mode.plain input text × (now : OpSet) × IsUnrevised room.site old now text why
     × (why ≢ revisions.Value)
-IsUnimported name site older plain all first last input before after (imports.Wipes deleted of) =
-    (after ≡ before) × (read : Option (List ℕ)) × (old : OpSet) × IsOpenedHere name site older first last read old
-    × (text : List Symbol) × IsReadAs plain input text × IsWiping site all old text deleted of
-IsUnimported name site older plain all first last input before after (imports.Keep why) =
-    (opened : Shelf) × (read : Option (List ℕ)) × (old : OpSet) × IsOpenedHere name site older first opened read old
-    × (set : OpSet) × (inserted deleted : ℕ) × TakesText site plain all input old set inserted deleted
-    × IsUnkept name (edited_line inserted deleted) opened last before after why
+IsUnimported room mode first last input before after (imports.Wipes deleted of) =
+    (after ≡ before) × (read : Option (List ℕ)) × (old : OpSet) × IsOpenedHere room first last read old
+    × (text : List Symbol) × IsReadAs mode.plain input text × IsWiping room.site mode.all old text deleted of
+IsUnimported room mode first last input before after (imports.Keep why) =
+    (opened : Shelf) × (read : Option (List ℕ)) × (old : OpSet) × IsOpenedHere room first opened read old
+    × (set : OpSet) × (inserted deleted : ℕ) × TakesText room.site mode.plain mode.all input old set inserted deleted
+    × IsUnkept (room.feed).now (edited_line inserted deleted) opened last before after why
 
 -- how far the reader of an import that stopped was read: not at all, where the feed was not taken or not let in; as no
 -- text was read; or to its end, where the text was read

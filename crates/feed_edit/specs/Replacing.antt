@@ -16,6 +16,7 @@ use Rattle.feed_stored.specs.Room.{IsMarked}
 use Rattle.feed_edit.specs.declared.fault.RevisionFault.{RevisionFault}
 use Rattle.feed_edit.specs.declared.fault.RevisionFault.TheVariants as revisions
 use Rattle.feed_edit.specs.Reporting.{IsReported, taken}
+use Rattle.feed_edit.specs.declared.room.Room.{Room}
 use Rattle.feed_edit.specs.declared.texts.Exchange.{Exchange}
 use Rattle.feed_edit.specs.declared.texts.Where.{Where}
 use Rattle.feed_edit.specs.declared.replace_fault.ExchangeFault.{ExchangeFault}
@@ -78,33 +79,33 @@ IsUnmade site was text why = ((why ≡ revisions.Full) × (max_ops < length text
 -- The set is that of the stored feed, which was let in, with operations of the site that make the one text the other at
 -- each place taken. The line was written, its feed stands under the name, and FEED.last has its greatest counter, or is
 -- as it was.
-abbrev pub IsReplaced : List ℕ → ℕ → Bool → Exchange → Shelf → Shelf → Option (List ℕ) → Option (List ℕ) → Type 0
-IsReplaced name site older exchange first last before after =
+abbrev pub IsReplaced : Room → Exchange → Shelf → Shelf → Option (List ℕ) → Option (List ℕ) → Type 0
+IsReplaced room exchange first last before after =
     (old new : List Symbol) × AreRead exchange old new × (opened : Shelf) × (read : Option (List ℕ)) × (was : OpSet)
-    × IsOpenedHere name site older first opened read was
-    × (set : OpSet) × (inserted deleted : ℕ) × Replaces site exchange.at old new was set inserted deleted
-    × (stored : Shelf) × IsKept name set (edited_line inserted deleted) read opened stored before after
-    × IsMarked name site set stored last
+    × IsOpenedHere room first opened read was
+    × (set : OpSet) × (inserted deleted : ℕ) × Replaces room.site exchange.at old new was set inserted deleted
+    × (stored : Shelf) × IsKept (room.feed).now set (edited_line inserted deleted) read opened stored before after
+    × IsMarked (room.feed).now room.site set stored last
 
 -- Why a replacement stopped, and what it left. Until the copy was changed the files are as they were when the feed was
 -- let in, and nothing was written but the places.
-abbrev pub IsUnreplaced : List ℕ → ℕ → Bool → Exchange → Shelf → Shelf → Option (List ℕ) → Option (List ℕ)
-    → ReplaceFault → Type 0
-IsUnreplaced name site older exchange first last before after (faults.Exchange why) = (after ≡ before) × (last ≡ first)
+abbrev pub IsUnreplaced : Room → Exchange → Shelf → Shelf → Option (List ℕ) → Option (List ℕ) → ReplaceFault
+    → Type 0
+IsUnreplaced room exchange first last before after (faults.Exchange why) = (after ≡ before) × (last ≡ first)
     × AreUnread exchange why
-IsUnreplaced name site older exchange first last before after (faults.Take why) =
-    (after ≡ before) × (old new : List Symbol) × AreRead exchange old new × IsBarred name first last why
-IsUnreplaced name site older exchange first last before after (faults.Last why) =
-    (after ≡ before) × (old new : List Symbol) × AreRead exchange old new × IsBarredHere name site older first last why
-IsUnreplaced name site older exchange first last before after (faults.Place why) =
+IsUnreplaced room exchange first last before after (faults.Take why) =
+    (after ≡ before) × (old new : List Symbol) × AreRead exchange old new × IsBarred (room.feed).now first last why
+IsUnreplaced room exchange first last before after (faults.Last why) =
+    (after ≡ before) × (old new : List Symbol) × AreRead exchange old new × IsBarredHere room first last why
+IsUnreplaced room exchange first last before after (faults.Place why) =
     (old new : List Symbol) × AreRead exchange old new × (read : Option (List ℕ)) × (was : OpSet)
-    × IsOpenedHere name site older first last read was × IsReported exchange.at old (copy_of was) before after why
-IsUnreplaced name site older exchange first last before after (faults.Revision why) =
+    × IsOpenedHere room first last read was × IsReported exchange.at old (copy_of was) before after why
+IsUnreplaced room exchange first last before after (faults.Revision why) =
     (after ≡ before) × (old new : List Symbol) × AreRead exchange old new × (read : Option (List ℕ)) × (was : OpSet)
-    × IsOpenedHere name site older first last read was
-    × (text : List Symbol) × IsExchanged exchange.at old new (copy_of was) text × IsUnmade site was text why
-IsUnreplaced name site older exchange first last before after (faults.Keep why) =
+    × IsOpenedHere room first last read was
+    × (text : List Symbol) × IsExchanged exchange.at old new (copy_of was) text × IsUnmade room.site was text why
+IsUnreplaced room exchange first last before after (faults.Keep why) =
     (old new : List Symbol) × AreRead exchange old new × (opened : Shelf) × (read : Option (List ℕ)) × (was : OpSet)
-    × IsOpenedHere name site older first opened read was
-    × (set : OpSet) × (inserted deleted : ℕ) × Replaces site exchange.at old new was set inserted deleted
-    × IsUnkept name (edited_line inserted deleted) opened last before after why
+    × IsOpenedHere room first opened read was
+    × (set : OpSet) × (inserted deleted : ℕ) × Replaces room.site exchange.at old new was set inserted deleted
+    × IsUnkept (room.feed).now (edited_line inserted deleted) opened last before after why

@@ -98,7 +98,8 @@ pub fn export_feed<W: Write, F: Files, A: Allocator + Copy>(
     files: &mut F,
     version: Version<'_>,
 ) -> Result<(), ExportFault>
-    ensures ok { OnOk result (IsExported version.entry (F.shelf files.old) (W.contents writer.old) (W.contents writer.new)) }
+    ensures ok { OnOk result
+        (IsExported version.entry (F.shelf files.old) (W.contents writer.old) (W.contents writer.new)) }
     ensures counted { OnOk result ((F.shelf files.new).failures ≡ (F.shelf files.old).failures) }
     ensures err { IfErr result
         (IsUnexported version.entry (F.shelf files.old) (F.shelf files.new) (W.contents writer.old)

@@ -9,8 +9,9 @@ ghost use Rattle.feed_edit.specs.Importing.{IsUnspared, LeavesOff, RefusesText, 
 
 use crate::editing::{Tally, revise};
 use crate::fault::{ImportFault, InputFault};
-use crate::keeping::report_and_keep;
+use crate::keeping::{Origin, report_and_keep};
 use crate::merging::take_feed;
+use crate::room::Room;
 use desk_blocks::Blocks;
 use desk_ops::Symbol;
 use desk_replica::Replica;
@@ -22,6 +23,15 @@ use text_copy::read_text;
 
 /// The most bytes of a text: eight for each symbol that a copy may have.
 pub const MAX_TEXT: usize = 8_388_608;
+
+/// How a text is imported.
+#[derive(Clone, Copy, Debug, PartialEq, Eq)]
+pub struct ImportMode {
+    /// The text has no marks for its styles.
+    pub plain: bool,
+    /// All of the copy may be deleted.
+    pub all: bool,
+}
 
 /// The copy that all that a reader has left is.
 fn text_from<R: Read, A: Allocator + Copy>(
@@ -107,31 +117,30 @@ pub fn import_text<R: Read, W: Write, F: Files, A: Allocator + Copy>(
     reader: &mut R,
     writer: &mut W,
     files: &mut F,
-    name: &str,
-    site: u16,
-    older: bool,
-    plain: bool,
-    all: bool,
+    room: Room<'_>,
+    mode: ImportMode,
 ) -> Result<(), ImportFault>
-    requires { 1 ≤ site }
+    requires { 1 ≤ room.site }
     ensures ok { OnOk result
-        (IsImported name.now site older plain all (F.shelf files.old) (F.shelf files.new) (R.remaining reader.old)
+        (IsImported room.entry mode (F.shelf files.old) (F.shelf files.new) (R.remaining reader.old)
         (W.contents writer.old) (W.contents writer.new)) }
-    ensures spared { all ≡ false
-        → OnOk result (SparesCopy name.now plain (F.shelf files.old) (R.remaining reader.old) (W.contents writer.old)
-        (W.contents writer.new)) }
+    ensures spared { mode.all ≡ false
+        → OnOk result (SparesCopy room.entry.feed.now mode.plain (F.shelf files.old) (R.remaining reader.old)
+        (W.contents writer.old) (W.contents writer.new)) }
     ensures err { IfErr result
-        (IsUnimported name.now site older plain all (F.shelf files.old) (F.shelf files.new) (R.remaining reader.old)
+        (IsUnimported room.entry mode (F.shelf files.old) (F.shelf files.new) (R.remaining reader.old)
         (W.contents writer.old) (W.contents writer.new)) }
-    ensures held { IsHeldAlone name.now (F.shelf files.old) (F.shelf files.new)
+    ensures held { IsHeldAlone room.entry.feed.now (F.shelf files.old) (F.shelf files.new)
         ⊎ ((reader.new ≡ reader.old) × (writer.new ≡ writer.old) × Stays (F.shelf files.old) (F.shelf files.new)) }
     ensures end { OnOk result (IsReadOut (R.remaining reader.old) (R.remaining reader.new)) }
     ensures left { IfErr result (LeavesOff (R.remaining reader.old) (R.remaining reader.new)) }
 {
-    let (old, mut replica) = take_feed(alloc, files, name, site)?;
-    let_in(alloc, files, name, &old, &replica, older)?;
-    let tally = take_text(alloc, &mut replica, reader, plain, all)?;
-    report_and_keep(alloc, &replica, tally, writer, files, name, &old)?;
+    let name = room.feed;
+    let (old, mut replica) = take_feed(alloc, files, name, room.site)?;
+    let_in(alloc, files, name, &old, &replica, room.older)?;
+    let tally = take_text(alloc, &mut replica, reader, mode.plain, mode.all)?;
+    let origin = Origin { name, old: &old };
+    report_and_keep(alloc, &replica, tally, writer, files, origin)?;
     mark(alloc, files, name, &replica);
     Ok(())
 }

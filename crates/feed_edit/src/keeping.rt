@@ -15,6 +15,13 @@ use feed_stored::{keep_replica, write_out};
 use std::alloc::Allocator;
 use std::io::Write;
 
+/// Where a feed was read: under a name, and these bytes; none where no file was there.
+#[derive(Clone, Copy)]
+pub struct Origin<'a, A: Allocator> {
+    pub name: &'a str,
+    pub old: &'a Option<Vec<u8, A>>,
+}
+
 /// The line of what was inserted and deleted.
 fn edited_line<A: Allocator + Copy>(alloc: A, tally: Tally) -> Result<String<A>, NoMemory>
     ensures { IfOk result (λ s. string_bytes s ≡ edited_line tally.inserted tally.deleted) }
@@ -36,19 +43,18 @@ pub fn write_and_keep<W: Write, F: Files, A: Allocator + Copy>(
     text: &[u8],
     writer: &mut W,
     files: &mut F,
-    name: &str,
-    old: &Option<Vec<u8, A>>,
+    origin: Origin<'_, A>,
 ) -> Result<(), KeepFault>
     ensures ok { OnOk result
-        (IsKept name.now replica.now.ops text.now (was_read old.now) (F.shelf files.old) (F.shelf files.new)
-        (W.contents writer.old) (W.contents writer.new)) }
+        (IsKept origin.entry.name.now replica.now.ops text.now (was_read origin.entry.old.now) (F.shelf files.old)
+        (F.shelf files.new) (W.contents writer.old) (W.contents writer.new)) }
     ensures err { IfErr result
-        (IsUnkept name.now text.now (F.shelf files.old) (F.shelf files.new) (W.contents writer.old)
+        (IsUnkept origin.entry.name.now text.now (F.shelf files.old) (F.shelf files.new) (W.contents writer.old)
         (W.contents writer.new)) }
     ensures held { HoldsOn (F.shelf files.old).held (F.shelf files.new).held }
 {
     write_out(writer, text)?;
-    Ok(keep_replica(alloc, replica, files, name, old)?)
+    Ok(keep_replica(alloc, replica, files, origin.name, origin.old)?)
 }
 
 /// Writes the line of what was inserted and deleted, and stores the feed of a replica.
@@ -58,17 +64,17 @@ pub fn report_and_keep<W: Write, F: Files, A: Allocator + Copy>(
     tally: Tally,
     writer: &mut W,
     files: &mut F,
-    name: &str,
-    old: &Option<Vec<u8, A>>,
+    origin: Origin<'_, A>,
 ) -> Result<(), KeepFault>
     ensures ok { OnOk result
-        (IsKept name.now replica.now.ops (edited_line tally.inserted tally.deleted) (was_read old.now)
-        (F.shelf files.old) (F.shelf files.new) (W.contents writer.old) (W.contents writer.new)) }
+        (IsKept origin.entry.name.now replica.now.ops (edited_line tally.inserted tally.deleted)
+        (was_read origin.entry.old.now) (F.shelf files.old) (F.shelf files.new) (W.contents writer.old)
+        (W.contents writer.new)) }
     ensures err { IfErr result
-        (IsUnkept name.now (edited_line tally.inserted tally.deleted) (F.shelf files.old) (F.shelf files.new)
-        (W.contents writer.old) (W.contents writer.new)) }
+        (IsUnkept origin.entry.name.now (edited_line tally.inserted tally.deleted) (F.shelf files.old)
+        (F.shelf files.new) (W.contents writer.old) (W.contents writer.new)) }
     ensures held { HoldsOn (F.shelf files.old).held (F.shelf files.new).held }
 {
     let line = edited_line(alloc, tally)?;
-    write_and_keep(alloc, replica, line.as_bytes(), writer, files, name, old)
+    write_and_keep(alloc, replica, line.as_bytes(), writer, files, origin)
 }

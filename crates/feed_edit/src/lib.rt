@@ -11,7 +11,8 @@
 //! A merge refuses to fork a stamp. An import refuses to wipe the copy, and neither it nor a replacement goes on with
 //! an older feed (`feed_stored`). The caller can ask for each of these. Each fault names the phase that stopped.
 //!
-//! `take_feed`, `open_feed`, `open_version`, `revise` and `report_and_keep` are steps of these calls, for the crates above.
+//! `take_feed`, `open_feed`, `open_version`, `revise` and `report_and_keep` are steps of these calls, for the crates
+//! above.
 #![tactic(auto)]
 
 mod counters;
@@ -25,6 +26,7 @@ mod merging;
 mod replace_fault;
 mod replacing;
 mod reporting;
+mod room;
 mod stamps;
 mod texts;
 
@@ -36,11 +38,12 @@ pub use fault::{
     TakeFault,
 };
 pub use forks::forks_line;
-pub use importing::{MAX_TEXT, import_text};
-pub use keeping::{report_and_keep, write_and_keep};
+pub use importing::{ImportMode, MAX_TEXT, import_text};
+pub use keeping::{Origin, report_and_keep, write_and_keep};
 pub use merging::{ANY_SITE, merge_feeds, take_feed};
 pub use replace_fault::{ExchangeFault, PlaceFault, ReplaceFault};
 pub use replacing::replace_text;
 pub use reporting::taken_cover_all;
+pub use room::Room;
 pub use stamps::{SiteStamp, SiteStamps};
 pub use texts::{Exchange, Where};

@@ -18,7 +18,7 @@ ghost use Rattle.feed_edit.specs.Stamps.{site_cmp};
 
 use crate::fault::{FeedTrouble, MergeFault, TakeFault};
 use crate::forks::{Known, forks_beside, known_in};
-use crate::keeping::write_and_keep;
+use crate::keeping::{Origin, write_and_keep};
 use crate::stamps::{SiteStamp, SiteStamps};
 use desk_blocks::Blocks;
 use desk_codec::{ReadFault, read_feed};
@@ -337,6 +337,7 @@ pub fn merge_feeds<W: Write, F: Files, A: Allocator + Copy>(
     let (old, mut replica, known) = take_known(alloc, files, name, forks)?;
     let (mut out, clean) = join_files(alloc, &mut replica, files, others, &known)?;
     put_faults(alloc, &replica, &mut out)?;
-    write_and_keep(alloc, &replica, &out, writer, files, name, &old)?;
+    let origin = Origin { name, old: &old };
+    write_and_keep(alloc, &replica, &out, writer, files, origin)?;
     Ok(clean)
 }

@@ -13,7 +13,7 @@ use crate::fault::RevisionFault;
 use crate::replace_fault::{PlaceFault, ReplaceFault};
 use crate::reporting::places_taken;
 use crate::texts::{Exchange, Where, read_both};
-use crate::{report_and_keep, revise, take_feed};
+use crate::{Origin, Room, report_and_keep, revise, take_feed};
 use desk_blocks::Blocks;
 use desk_held::LIMIT;
 use desk_memory::NoMemory;
@@ -136,28 +136,28 @@ pub fn replace_text<W: Write, F: Files, A: Allocator + Copy>(
     alloc: A,
     writer: &mut W,
     files: &mut F,
-    name: &str,
-    site: u16,
-    older: bool,
+    room: Room<'_>,
     exchange: &Exchange<'_>,
 ) -> Result<(), ReplaceFault>
-    requires { 1 ≤ site }
+    requires { 1 ≤ room.site }
     ensures ok { OnOk result
-        (IsReplaced name.now site older exchange.now (F.shelf files.old) (F.shelf files.new) (W.contents writer.old)
+        (IsReplaced room.entry exchange.now (F.shelf files.old) (F.shelf files.new) (W.contents writer.old)
         (W.contents writer.new)) }
     ensures err { IfErr result
-        (IsUnreplaced name.now site older exchange.now (F.shelf files.old) (F.shelf files.new) (W.contents writer.old)
+        (IsUnreplaced room.entry exchange.now (F.shelf files.old) (F.shelf files.new) (W.contents writer.old)
         (W.contents writer.new)) }
-    ensures held { IsHeldAlone name.now (F.shelf files.old) (F.shelf files.new)
+    ensures held { IsHeldAlone room.entry.feed.now (F.shelf files.old) (F.shelf files.new)
         ⊎ ((writer.new ≡ writer.old) × Stays (F.shelf files.old) (F.shelf files.new)) }
 {
     let (old, new) = read_both(alloc, exchange)?;
-    let (stored, mut replica) = take_feed(alloc, files, name, site)?;
-    let_in(alloc, files, name, &stored, &replica, older)?;
+    let name = room.feed;
+    let (stored, mut replica) = take_feed(alloc, files, name, room.site)?;
+    let_in(alloc, files, name, &stored, &replica, room.older)?;
     let (copy, places) = taken_in(alloc, &replica, writer, exchange.at, &old)?;
     let text = exchanged(alloc, &copy, &places, old.len(), &new)?;
     let tally = revise(alloc, &mut replica, &text)?;
-    report_and_keep(alloc, &replica, tally, writer, files, name, &stored)?;
+    let origin = Origin { name, old: &stored };
+    report_and_keep(alloc, &replica, tally, writer, files, origin)?;
     mark(alloc, files, name, &replica);
     Ok(())
 }

@@ -25,14 +25,15 @@ pub record Bears (op : Op) (c : Correction) : Type 0 where
   pub first : c.first ≤ (stamp_of op).counter
   pub last : (stamp_of op).counter ≤ c.last
 
--- its counters follow one another, and its site made none of the counter before the first and of the one behind the last
+-- its counters follow one another, and its site made none of the counter before the first and of the one behind the
+-- last
 pub record IsLongestRow (h : OpSet) (c : Correction) : Type 0 where
   pub follow : (n : ℕ) → c.first ≤ n → n ≤ c.last → is_borne_in h (at c.site n) ≡ true
   pub begins : (n : ℕ) → n + 1 ≡ c.first → is_borne_in h (at c.site n) ≡ false
   pub ends : is_borne_in h (at c.site (c.last + 1)) ≡ false
 
--- each operation of a set is in one correction and in no other; a correction has the operations of the set that bear its
--- stamps, and is a longest row, so that no two of one site can be joined; the newest is the last
+-- each operation of a set is in one correction and in no other; a correction has the operations of the set that bear
+-- its stamps, and is a longest row, so that no two of one site can be joined; the newest is the last
 pub record CorrectionsPartASet (h : OpSet) : Type 0 where
   pub held : (op : Op) → has_op h op ≡ true → (c : Correction) × IsCorrection h c × IsIn h op c
   pub alone : (op : Op) (c d : Correction) → IsCorrection h c → IsCorrection h d → IsIn h op c → IsIn h op d → c ≡ d

@@ -28,5 +28,5 @@ abbrev pub IsUnlogged : Asked → List ℕ → Shelf → Shelf → Option (List 
 IsUnlogged asked name first last before after (exports.Feed why) = (after ≡ before) × IsClosedBy name first last why
 IsUnlogged asked name first last before after exports.Write = (set : OpSet) × IsSetOf name first set
     × WritesPrefix before after (log_bytes asked set) × (last.failures ≡ first.failures)
-IsUnlogged asked name first last before after exports.NoMemory = (after ≡ before) × (set : OpSet) × IsSetOf name first set
-    × (last.failures ≡ first.failures)
+IsUnlogged asked name first last before after exports.NoMemory = (after ≡ before) × (set : OpSet)
+    × IsSetOf name first set × (last.failures ≡ first.failures)

@@ -6,8 +6,8 @@ use Rattle.desk_ops.specs.OpSet.{OpSet, has_op, in_order}
 use Rattle.desk_ops.specs.Held.{is_borne_in}
 use Rattle.desk_ops.specs.Shown.{copy_of}
 use Rattle.desk_ops.specs.Faults.{faults_of}
-use Rattle.feed_history.specs.Rooms.{is_nothing, made_by, made_of, site_line, sites, sites_at_fault, sites_shown, stamp_by}
-use Rattle.feed_history.specs.Rooms.{times}
+use Rattle.feed_history.specs.Rooms.{is_nothing, made_by, made_of, site_line, sites, sites_at_fault, sites_shown}
+use Rattle.feed_history.specs.Rooms.{stamp_by, times}
 
 -- each operation's site is a number of 16 bits
 abbrev pub AreNumbered : OpSet → Type 0

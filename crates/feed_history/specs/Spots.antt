@@ -14,7 +14,8 @@ spot_stamp spot = record { counter = spot.counter; site = spot.site }
 abbrev pub symbol_of : Spot → Symbol
 symbol_of spot = record { style = spot.style; ch = spot.ch }
 
--- the elements of a walk with their symbols, each with the number of those before it that are shown; so many are shown before them all
+-- the elements of a walk with their symbols, each with the number of those before it that are shown; so many are shown
+-- before them all
 abbrev pub spots_from : ℕ → List Entry → List Spot
 spots_from place [] = []
 spots_from place (e ∷ es) =

@@ -1,5 +1,6 @@
 -- The texts that operations insert and delete.
-use Rattle.std.specs.Prelude.{ℕ, ◌-◌, Bool, not, ◌&&◌, ◌==◌, nat_lt, List, [], ◌∷◌, ◌++◌, length, take, drop, Option, Some, None, if◌then◌else◌}
+use Rattle.std.specs.Prelude.{ℕ, ◌-◌, Bool, not, ◌&&◌, ◌==◌, nat_lt, List, [], ◌∷◌, ◌++◌, length, take, drop}
+use Rattle.std.specs.Prelude.{Option, Some, None, if◌then◌else◌}
 use Rattle.desk_ops.specs.declared.op.Style.TheVariants.{Roman}
 use Rattle.desk_ops.specs.declared.op.Symbol.{Symbol}
 use Rattle.desk_ops.specs.declared.op.Op.{Op}
@@ -25,8 +26,8 @@ abbrev pub symbols_of : Option Op → List Symbol
 symbols_of None = []
 symbols_of (Some op) = own_symbols op
 
--- of a delete the symbol of the first operation that bears its target among all, if that is an insert: of the operations
--- of one stamp the inserts come first
+-- of a delete the symbol of the first operation that bears its target among all, if that is an insert: of the
+-- operations of one stamp the inserts come first
 abbrev pub taken_symbols : List Op → Op → List Symbol
 taken_symbols all (Insert stamp parent symbol) = []
 taken_symbols all (Delete stamp target) = symbols_of (first (bearing all target))

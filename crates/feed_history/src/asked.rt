@@ -54,7 +54,8 @@ fn has_text<A: Allocator + Copy>(
     asked: &Asked<'_>,
     parts: &Parts<A>,
 ) -> Result<bool, NoMemory>
-    ensures { IfOk result (λ found. found ≡ has_text asked.now.text parts.now.inserted.items parts.now.taken.symbols.items) }
+    ensures { IfOk result
+        (λ found. found ≡ has_text asked.now.text parts.now.inserted.items parts.now.taken.symbols.items) }
 {
     match asked.text {
         Some(text) => {

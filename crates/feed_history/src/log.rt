@@ -36,8 +36,8 @@ fn log_of<A: Allocator + Copy>(
 }
 
 /// Writes the log of a stored feed: a line for each correction that is asked for, newest last, as `11.1..20.1 at 9 + "
-/// by noon."`. The file must be there. Its name is not taken, and no file changes: a feed is stored by a rename, so what
-/// is read is a whole feed. A refusal of the feed or of memory comes before anything is written.
+/// by noon."`. The file must be there. Its name is not taken, and no file changes: a feed is stored by a rename, so
+/// what is read is a whole feed. A refusal of the feed or of memory comes before anything is written.
 pub fn report_log<W: Write, F: Files, A: Allocator + Copy>(
     alloc: A,
     writer: &mut W,

@@ -33,7 +33,8 @@ fn next_seat<T: Stamped>(items: &[T], near: usize, stamp: Stamp) -> usize
     seat(items, near, stamp)
 }
 
-/// The first that bears a stamp, of a list by stamp. It is looked for near a place first, which then is where it would be.
+/// The first that bears a stamp, of a list by stamp. It is looked for near a place first, which then is where it would
+/// be.
 pub fn first_bearing<T: Stamped>(items: &[T], near: &mut usize, stamp: Stamp) -> Option<T>
     requires { Rise T.borne items.now }
     ensures { result ≡ first (bearing_by T.borne items.now stamp) }
@@ -55,7 +56,8 @@ pub fn any_bearing<T: Stamped>(items: &[T], stamp: Stamp) -> Option<T>
     first_bearing(items, &mut near, stamp)
 }
 
-/// Those that bear a stamp, of a list by stamp. They are looked for near a place first, which then is that of the first.
+/// Those that bear a stamp, of a list by stamp. They are looked for near a place first, which then is that of the
+/// first.
 fn bearing<'a, T: Stamped>(items: &'a [T], near: &mut usize, stamp: Stamp) -> &'a [T]
     requires rising { Rise T.borne items.now }
     requires few { length items.now < 2 ^ 63 }

@@ -42,8 +42,8 @@ impl<A: Allocator + Copy> Taken<A> {
     }
 
     /// Adds what an operation takes among all of a set, if it is a delete whose target is there. Of the operations of
-    /// one stamp the inserts come first, and the first alone counts. An element has its symbol, and is looked for first:
-    /// elements are half as large as operations.
+    /// one stamp the inserts come first, and the first alone counts. An element has its symbol, and is looked for
+    /// first: elements are half as large as operations.
     fn add(&mut self, all: &[Op], spots: &[Spot], op: &Op) -> Result<(), AllocError>
         requires rising { Rise stamp_of all.now }
         requires spots { Rise spot_stamp spots.now }

@@ -44,7 +44,8 @@ IsReported one other shelf before after same = (reported : List ℕ) × IsDiffer
 
 -- why not all of it was written, and what was: nothing, or under Write a prefix. Write and out of memory come where
 -- both feeds were opened and no file call failed
-abbrev pub IsUnreported : Version → List ℕ → Shelf → Shelf → Option (List ℕ) → Option (List ℕ) → DifferenceFault → Type 0
+abbrev pub IsUnreported : Version → List ℕ → Shelf → Shelf → Option (List ℕ) → Option (List ℕ) → DifferenceFault
+    → Type 0
 IsUnreported one other first last before after (faults.One why) = (after ≡ before) × IsUnversioned one first last why
 IsUnreported one other first last before after (faults.Other why) =
     (after ≡ before) × (set : OpSet) × IsVersion one first set × IsClosedBy other first last why

@@ -12,7 +12,7 @@ use crate::making::{Made, made_of};
 use crate::reporting::{renumbered_line, reported_of};
 use desk_blocks::Blocks;
 use desk_replica::Replica;
-use feed_edit::{ANY_SITE, KeepFault, open_feed, take_feed, write_and_keep};
+use feed_edit::{ANY_SITE, KeepFault, Origin, open_feed, take_feed, write_and_keep};
 use feed_files::Files;
 use feed_stored::write_out;
 use std::alloc::Allocator;
@@ -84,15 +84,11 @@ fn finish<W: Write, F: Files, A: Allocator + Copy>(
         return write_none(alloc, writer);
     }
     let reported = reported_of(alloc, &opened.feed, made)?;
-    write_and_keep(
-        alloc,
-        &made.replica,
-        &reported,
-        writer,
-        files,
+    let origin = Origin {
         name,
-        &opened.old,
-    )
+        old: &opened.old,
+    };
+    write_and_keep(alloc, &made.replica, &reported, writer, files, origin)
 }
 
 /// Renumbers a stored feed whose number another room used too, so that a merge keeps the corrections of both. A stamp

@@ -1,4 +1,4 @@
-use desk_script::{Mode, RunFault, SheetFault, run_sheet_on_feed};
+use desk_script::{Memory, Mode, Room, RunFault, SheetFault, run_sheet_on_feed};
 use feed_files::trial::{AtEnd, TrialFiles, TrialReader, TrialWriter};
 use feed_files::{FileRefusal, Files};
 use std::alloc::{AllocError, Global};
@@ -30,15 +30,19 @@ fn ended(
     let mut reader = TrialReader::new(input);
     let mut written = Vec::new(alloc);
     match run_sheet_on_feed(
-        alloc,
-        alloc,
+        Memory {
+            own: alloc,
+            global: alloc,
+        },
         mode,
         &mut reader,
         &mut written,
         files,
-        "a.feed",
-        3,
-        older,
+        Room {
+            feed: "a.feed",
+            site: 3,
+            older,
+        },
     ) {
         Ok(()) => Ok(written),
         Err(fault) => Err(fault),
@@ -50,15 +54,19 @@ fn silent_on(alloc: Global, files: &mut TrialFiles<Global>, mode: Mode) -> Resul
     let mut writer = TrialWriter::new(alloc).with_room(0, AtEnd::Fails);
     let mut reader = TrialReader::new(MAKES_Y).failing_at_call(1);
     run_sheet_on_feed(
-        alloc,
-        alloc,
+        Memory {
+            own: alloc,
+            global: alloc,
+        },
         mode,
         &mut reader,
         &mut writer,
         files,
-        "a.feed",
-        3,
-        false,
+        Room {
+            feed: "a.feed",
+            site: 3,
+            older: false,
+        },
     )
 }
 

@@ -1,7 +1,9 @@
 //! The tests of feed_sites.
 
 use desk_codec::{FeedFault, FeedWhy};
-use feed_edit::{FeedTrouble, KeepFault, TakeFault, Version, export_feed, import_text};
+use feed_edit::{
+    FeedTrouble, ImportMode, KeepFault, Room, TakeFault, Version, export_feed, import_text,
+};
 use feed_files::trial::{AtEnd, TrialFiles, TrialReader, TrialWriter};
 use feed_files::{FileRefusal, Files};
 use feed_sites::{RenewFault, renew_feed};
@@ -98,11 +100,15 @@ fn long_copy_is_renewed(rt: HostRuntime) -> Result<(), Fail> {
         &mut reader,
         &mut written,
         &mut files,
-        "long",
-        3,
-        false,
-        false,
-        true,
+        Room {
+            feed: "long",
+            site: 3,
+            older: false,
+        },
+        ImportMode {
+            plain: false,
+            all: true,
+        },
     )?;
     let mut files = files.for_next_run();
     let mut written = Vec::new(rt.alloc());

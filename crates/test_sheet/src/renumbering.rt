@@ -1,7 +1,8 @@
 //! The tests of feed_sites.
 use desk_ops::Stamp;
 use feed_edit::{
-    FeedTrouble, KeepFault, TakeFault, Version, export_feed, import_text, merge_feeds,
+    FeedTrouble, ImportMode, KeepFault, Room, TakeFault, Version, export_feed, import_text,
+    merge_feeds,
 };
 use feed_files::trial::{AtEnd, TrialFiles, TrialReader, TrialWriter};
 use feed_files::{FileRefusal, Files};
@@ -101,11 +102,15 @@ fn key(alloc: Global, files: &mut TrialFiles<Global>, name: &str, text: &[u8]) -
         &mut reader,
         &mut written,
         files,
-        name,
-        1,
-        false,
-        false,
-        true,
+        Room {
+            feed: name,
+            site: 1,
+            older: false,
+        },
+        ImportMode {
+            plain: false,
+            all: true,
+        },
     )?;
     Ok(())
 }

@@ -4,8 +4,8 @@
 //! then the case, then the wedge; each file must be there. It takes no name: a store is a rename, so it reads a whole
 //! feed. A proof refuses only for these.
 //!
-//! A text is read as `text_copy` reads it, with marks or plain: at most 8,388,608 bytes and 1,048,576 symbols. It has no
-//! faults of its copy, and no settings but the numbers of the case and the wedge.
+//! A text is read as `text_copy` reads it, with marks or plain: at most 8,388,608 bytes and 1,048,576 symbols. It has
+//! no faults of its copy, and no settings but the numbers of the case and the wedge.
 //!
 //! `trial` has settings that are tried in place of those of a copy, each a text KEY=VALUE as `loose=200`. Nothing of
 //! them is stored.

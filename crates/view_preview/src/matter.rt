@@ -84,8 +84,8 @@ impl<A: Allocator + Copy> Matter<A> {
         })
     }
 
-    /// A text and the copy that it is. No correction is missing in it, and it has no setting but the numbers of the case
-    /// and the wedge.
+    /// A text and the copy that it is. No correction is missing in it, and it has no setting but the numbers of the
+    /// case and the wedge.
     pub fn of_text(
         alloc: A,
         text: Vec<u8, A>,

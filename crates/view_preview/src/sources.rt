@@ -22,9 +22,9 @@ pub struct Sources<'a> {
     pub wedge: &'a str,
 }
 
-/// Opens a version of a stored feed, and reads a case and a wedge. No name is taken, and no file changes. `NoMemory` comes only
-/// where the device did not fail in the call, the feed was opened, and the case, where the wedge was read, was not
-/// refused.
+/// Opens a version of a stored feed, and reads a case and a wedge. No name is taken, and no file changes. `NoMemory`
+/// comes only where the device did not fail in the call, the feed was opened, and the case, where the wedge was read,
+/// was not refused.
 pub fn take_in<F: Files, A: Allocator + Copy>(
     memory: Memory<A>,
     files: &mut F,

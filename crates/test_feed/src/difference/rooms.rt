@@ -1,6 +1,6 @@
 //! Feeds of texts, and what is said of two.
 
-use feed_edit::{Version, import_text};
+use feed_edit::{ImportMode, Room, Version, import_text};
 use feed_files::trial::{TrialFiles, TrialReader};
 use feed_sites::{DifferenceFault, report_difference};
 use std::alloc::Global;
@@ -24,11 +24,15 @@ pub fn key(
         &mut reader,
         &mut written,
         files,
-        name,
-        site,
-        false,
-        false,
-        true,
+        Room {
+            feed: name,
+            site,
+            older: false,
+        },
+        ImportMode {
+            plain: false,
+            all: true,
+        },
     )?;
     Ok(())
 }

@@ -1,8 +1,8 @@
 use crate::hand::feeds::X;
 use desk_codec::{FeedFault, FeedWhy};
 use feed_edit::{
-    FeedTrouble, ImportFault, InputFault, KeepFault, MAX_TEXT, RevisionFault, TakeFault, Version,
-    export_feed, import_text,
+    FeedTrouble, ImportFault, ImportMode, InputFault, KeepFault, MAX_TEXT, RevisionFault, Room,
+    TakeFault, Version, export_feed, import_text,
 };
 use feed_files::trial::{AtEnd, TrialFiles, TrialReader, TrialWriter};
 use feed_files::{FileRefusal, Files};
@@ -51,11 +51,12 @@ fn imported(
         &mut reader,
         &mut written,
         files,
-        name,
-        4,
-        false,
-        plain,
-        true,
+        Room {
+            feed: name,
+            site: 4,
+            older: false,
+        },
+        ImportMode { plain, all: true },
     ) {
         Ok(()) => Ok(written),
         Err(fault) => Err(fault),
@@ -137,11 +138,15 @@ fn stop_of(
         &mut reader,
         &mut written,
         files,
-        name,
-        4,
-        false,
-        false,
-        true,
+        Room {
+            feed: name,
+            site: 4,
+            older: false,
+        },
+        ImportMode {
+            plain: false,
+            all: true,
+        },
     );
     let stays = files.holds("x.feed", X) && files.holds("late.feed", LATE);
     if !stays || !written.is_empty() || files.bytes_of("x.feed.new").is_some() {
@@ -236,11 +241,15 @@ fn reader_that_fails(rt: HostRuntime) -> Result<(), Fail> {
         &mut reader,
         &mut written,
         &mut files,
-        "x.feed",
-        4,
-        false,
-        false,
-        true,
+        Room {
+            feed: "x.feed",
+            site: 4,
+            older: false,
+        },
+        ImportMode {
+            plain: false,
+            all: true,
+        },
     );
     assert_eq!(rt; ended, Err(ImportFault::Input(InputFault::Read)));
     assert!(rt; written.is_empty() && files.holds("x.feed", X));
@@ -271,11 +280,15 @@ fn closed_output_imports_nothing(rt: HostRuntime) -> Result<(), Fail> {
         &mut reader,
         &mut writer,
         &mut files,
-        "x.feed",
-        4,
-        false,
-        false,
-        true,
+        Room {
+            feed: "x.feed",
+            site: 4,
+            older: false,
+        },
+        ImportMode {
+            plain: false,
+            all: true,
+        },
     );
     assert_eq!(rt; ended, Err(ImportFault::Keep(KeepFault::Write)));
     assert!(rt; b"ok inserted 1 deleted 0\n".starts_with(writer.written()));
@@ -341,11 +354,15 @@ fn is_refused(alloc: Global, cut: usize) -> Result<bool, Fail> {
         &mut reader,
         &mut written,
         &mut files,
-        "x.feed",
-        4,
-        false,
-        false,
-        true,
+        Room {
+            feed: "x.feed",
+            site: 4,
+            older: false,
+        },
+        ImportMode {
+            plain: false,
+            all: true,
+        },
     );
     drop(ballast);
     let (is_refused, is_reported) = match ended {

@@ -1,6 +1,6 @@
 //! Imports into feeds that are older than what was stored here.
 
-use feed_edit::{ImportFault, import_text};
+use feed_edit::{ImportFault, ImportMode, Room, import_text};
 use feed_files::trial::{TrialFiles, TrialReader};
 use feed_stored::LastFault;
 use std::alloc::Global;
@@ -23,11 +23,15 @@ fn imported(
         &mut reader,
         &mut written,
         files,
-        "x.feed",
-        4,
-        older,
-        false,
-        false,
+        Room {
+            feed: "x.feed",
+            site: 4,
+            older,
+        },
+        ImportMode {
+            plain: false,
+            all: false,
+        },
     ) {
         Ok(()) => Ok(written),
         Err(fault) => Err(fault),

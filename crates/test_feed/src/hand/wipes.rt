@@ -1,6 +1,6 @@
 //! Imports that would delete most of a copy.
 
-use feed_edit::{ImportFault, import_text};
+use feed_edit::{ImportFault, ImportMode, Room, import_text};
 use feed_files::trial::{TrialFiles, TrialReader};
 use std::alloc::{AllocError, Global};
 use std::test::Fail;
@@ -27,11 +27,12 @@ fn imported(
         &mut reader,
         &mut written,
         files,
-        "a.feed",
-        4,
-        false,
-        true,
-        all,
+        Room {
+            feed: "a.feed",
+            site: 4,
+            older: false,
+        },
+        ImportMode { plain: true, all },
     ) {
         Ok(()) => Ok(written),
         Err(fault) => Err(fault),

@@ -4,7 +4,8 @@ ghost use Rattle.std.specs.Prelude.{◌≤◌};
 
 use crate::replace::rooms::{X, feed_of, text_of};
 use feed_edit::{
-    Exchange, FeedTrouble, KeepFault, PlaceFault, ReplaceFault, TakeFault, Where, replace_text,
+    Exchange, FeedTrouble, KeepFault, PlaceFault, ReplaceFault, Room, TakeFault, Where,
+    replace_text,
 };
 use feed_files::trial::{AtEnd, TrialFiles, TrialWriter};
 use feed_files::{FileRefusal, Files};
@@ -52,7 +53,17 @@ fn ended(
     requires { 1 ≤ site }
 {
     let mut written = Vec::new(alloc);
-    match replace_text(alloc, &mut written, files, "x.feed", site, older, exchange) {
+    match replace_text(
+        alloc,
+        &mut written,
+        files,
+        Room {
+            feed: "x.feed",
+            site,
+            older,
+        },
+        exchange,
+    ) {
         Ok(()) => Ok(written),
         Err(fault) => Err(fault),
     }
@@ -65,7 +76,17 @@ fn silent_on(
     exchange: &Exchange<'_>,
 ) -> Result<(), ReplaceFault> {
     let mut writer = TrialWriter::new(alloc).with_room(0, AtEnd::Fails);
-    replace_text(alloc, &mut writer, files, "x.feed", 4, false, exchange)
+    replace_text(
+        alloc,
+        &mut writer,
+        files,
+        Room {
+            feed: "x.feed",
+            site: 4,
+            older: false,
+        },
+        exchange,
+    )
 }
 
 /// The feed holds less than was made here.
@@ -235,7 +256,17 @@ fn end_of(alloc: Global, cut: usize, last: &[u8]) -> Result<End, Fail> {
     let mut files = feed_of(alloc, b"x")?;
     files.put("a.feed.last", last)?;
     let mut written = Vec::new(alloc);
-    let ended = replace_text(&heap, &mut written, &mut files, "a.feed", 4, false, &LONGER);
+    let ended = replace_text(
+        &heap,
+        &mut written,
+        &mut files,
+        Room {
+            feed: "a.feed",
+            site: 4,
+            older: false,
+        },
+        &LONGER,
+    );
     drop(ballast);
     let is_unmarked = files.holds("a.feed.last", last);
     let text = text_of(alloc, &mut files)?;

@@ -1,7 +1,7 @@
 use crate::replace::rooms::{X, feed_of, left_by, text_of};
 use desk_codec::{FeedFault, FeedWhy};
 use feed_edit::{
-    Exchange, ExchangeFault, FeedTrouble, KeepFault, PlaceFault, ReplaceFault, RevisionFault,
+    Exchange, ExchangeFault, FeedTrouble, KeepFault, PlaceFault, ReplaceFault, RevisionFault, Room,
     TakeFault, Where, replace_text,
 };
 use feed_files::trial::{AtEnd, TrialFiles, TrialWriter};
@@ -40,7 +40,17 @@ fn stop_of(
     exchange: &Exchange<'_>,
 ) -> Result<Option<ReplaceFault>, Fail> {
     let mut written = Vec::new(alloc);
-    let ended = replace_text(alloc, &mut written, files, name, 4, false, exchange);
+    let ended = replace_text(
+        alloc,
+        &mut written,
+        files,
+        Room {
+            feed: name,
+            site: 4,
+            older: false,
+        },
+        exchange,
+    );
     let stays = files.holds("x.feed", X) && files.holds("late.feed", LATE);
     if !stays || !written.is_empty() || files.bytes_of("x.feed.new").is_some() {
         return Err(Fail::new("bytes before a fault"));
@@ -135,9 +145,11 @@ fn missing_feed_has_no_place(rt: HostRuntime) -> Result<(), Fail> {
         rt.alloc(),
         &mut written,
         &mut files,
-        "b.feed",
-        4,
-        false,
+        Room {
+            feed: "b.feed",
+            site: 4,
+            older: false,
+        },
         &LONGER,
     );
     assert_eq!(rt; ended, Err(ReplaceFault::Place(PlaceFault::NoPlace)));
@@ -166,9 +178,11 @@ fn files_that_fail_under_an_exchange(rt: HostRuntime) -> Result<(), Fail> {
             rt.alloc(),
             &mut written,
             &mut files,
-            "x.feed",
-            4,
-            false,
+            Room {
+                feed: "x.feed",
+                site: 4,
+                older: false,
+            },
             &LONGER,
         );
         assert_eq!(rt; ended, Err(fault));
@@ -185,9 +199,11 @@ fn closed_output_of_an_exchange(rt: HostRuntime) -> Result<(), Fail> {
         rt.alloc(),
         &mut writer,
         &mut files,
-        "x.feed",
-        4,
-        false,
+        Room {
+            feed: "x.feed",
+            site: 4,
+            older: false,
+        },
         &LONGER,
     );
     assert_eq!(rt; ended, Err(ReplaceFault::Keep(KeepFault::Write)));
@@ -205,9 +221,11 @@ fn closed_output_of_places(rt: HostRuntime) -> Result<(), Fail> {
         rt.alloc(),
         &mut writer,
         &mut files,
-        "a.feed",
-        4,
-        false,
+        Room {
+            feed: "a.feed",
+            site: 4,
+            older: false,
+        },
         &LONGER,
     );
     assert_eq!(rt; ended, Err(ReplaceFault::Place(PlaceFault::Write)));
@@ -255,9 +273,11 @@ fn is_refused(
         &heap,
         &mut written,
         &mut files,
-        "a.feed",
-        4,
-        false,
+        Room {
+            feed: "a.feed",
+            site: 4,
+            older: false,
+        },
         &exchange,
     );
     drop(ballast);

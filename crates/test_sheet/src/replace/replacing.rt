@@ -1,5 +1,5 @@
 use crate::replace::rooms::{X, left_by};
-use feed_edit::{Exchange, Where, replace_text};
+use feed_edit::{Exchange, Room, Where, replace_text};
 use feed_files::trial::TrialFiles;
 use std::alloc::Global;
 use std::test::Fail;
@@ -120,9 +120,11 @@ fn makes(alloc: Global, from: &str, to: &str, line: &str, bytes: &[u8]) -> Resul
         alloc,
         &mut written,
         &mut files,
-        "x.feed",
-        4,
-        false,
+        Room {
+            feed: "x.feed",
+            site: 4,
+            older: false,
+        },
         &exchange,
     )?;
     let is_gone = files.bytes_of("x.feed.new").is_none();

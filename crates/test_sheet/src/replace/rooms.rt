@@ -1,6 +1,9 @@
 //! Feeds of texts, and what a run on one leaves.
 
-use feed_edit::{Exchange, ReplaceFault, Version, Where, export_feed, import_text, replace_text};
+use feed_edit::{
+    Exchange, ImportMode, ReplaceFault, Room, Version, Where, export_feed, import_text,
+    replace_text,
+};
 use feed_files::trial::{TrialFiles, TrialReader};
 use std::alloc::Global;
 use std::test::Fail;
@@ -26,11 +29,15 @@ pub fn feed_of(alloc: Global, text: &[u8]) -> Result<TrialFiles<Global>, Fail> {
         &mut reader,
         &mut written,
         &mut files,
-        "a.feed",
-        3,
-        false,
-        false,
-        false,
+        Room {
+            feed: "a.feed",
+            site: 3,
+            older: false,
+        },
+        ImportMode {
+            plain: false,
+            all: false,
+        },
     )?;
     Ok(files.for_next_run())
 }
@@ -50,9 +57,11 @@ pub fn left_after(alloc: Global, text: &[u8], exchange: &Exchange<'_>) -> Result
         alloc,
         &mut written,
         &mut files,
-        "a.feed",
-        4,
-        false,
+        Room {
+            feed: "a.feed",
+            site: 4,
+            older: false,
+        },
         exchange,
     );
     let text = text_of(alloc, &mut files)?;

@@ -1,6 +1,6 @@
 use crate::sheet::sheets::same;
 use desk_codec::{FeedFault, FeedWhy};
-use desk_script::{Mode, RunFault, SheetFault, run_sheet_on_feed};
+use desk_script::{Memory, Mode, Room, RunFault, SheetFault, run_sheet_on_feed};
 use feed_files::trial::{AtEnd, TrialFiles, TrialReader, TrialWriter};
 use feed_files::{FileRefusal, Files};
 use linked_list_allocator::LocalHeap;
@@ -37,15 +37,19 @@ fn ended(
     let mut reader = TrialReader::new(input).in_steps_of(7);
     let mut writer = TrialWriter::new(alloc);
     let end = run_sheet_on_feed(
-        alloc,
-        alloc,
+        Memory {
+            own: alloc,
+            global: alloc,
+        },
         MODE,
         &mut reader,
         &mut writer,
         files,
-        name,
-        3,
-        false,
+        Room {
+            feed: name,
+            site: 3,
+            older: false,
+        },
     );
     same(writer.written(), want)?;
     Ok(end.err())
@@ -130,15 +134,19 @@ fn closed_output(rt: HostRuntime) -> Result<(), Fail> {
     let mut reader = TrialReader::new(b"insert 3 0 r\"y\"\nshow 3\n");
     let mut writer = TrialWriter::new(rt.alloc()).with_room(12, AtEnd::Fails);
     let end = run_sheet_on_feed(
-        rt.alloc(),
-        rt.alloc(),
+        Memory {
+            own: rt.alloc(),
+            global: rt.alloc(),
+        },
         MODE,
         &mut reader,
         &mut writer,
         &mut files,
-        "x.feed",
-        3,
-        false,
+        Room {
+            feed: "x.feed",
+            site: 3,
+            older: false,
+        },
     );
     assert_eq!(rt; end, Err(SheetFault::Run(RunFault::Write)));
     assert_eq!(rt; writer.written(), b"1 ok 2.3\n2 c".as_slice());
@@ -158,15 +166,19 @@ fn is_refused(alloc: Global, cut: usize) -> Result<bool, Fail> {
     let mut reader = TrialReader::new(MAKES_X);
     let mut written = Vec::new(alloc);
     let end = run_sheet_on_feed(
-        &heap,
-        alloc,
+        Memory {
+            own: &heap,
+            global: alloc,
+        },
         MODE,
         &mut reader,
         &mut written,
         &mut files,
-        "n.feed",
-        3,
-        false,
+        Room {
+            feed: "n.feed",
+            site: 3,
+            older: false,
+        },
     );
     drop(ballast);
     let reported = written.as_slice();

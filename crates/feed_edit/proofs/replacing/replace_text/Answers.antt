@@ -34,12 +34,12 @@ pub returns-in_err-let_in-clause-err : goal.returns-in_err-let_in-clause-err
 returns-in_err-let_in-clause-err g c =
     let p = err_from_is_err_and c.from_residual-in_err-let_in.result c.from_residual-in_err-let_in.ensures.1 in
     let taken : Shelf = g.F.Files.shelf c.take_feed.new.files in
-    let out = subst (λ n. IsKeptOut c.args.name.now n (is_compared c.args.older (was_read c.in_ok-stored.stored)) c.in_ok-stored.replica.ops taken (g.F.Files.shelf c.let_in.new.files) c.in_err-let_in.field-0.0) c.in_ok-stored.ensures.site c.in_err-let_in.ensures.err in
+    let out = subst (λ n. IsKeptOut c.args.room.feed.now n (is_compared c.args.room.older (was_read c.in_ok-stored.stored)) c.in_ok-stored.replica.ops taken (g.F.Files.shelf c.let_in.new.files) c.in_err-let_in.field-0.0) c.in_ok-stored.ensures.site c.in_err-let_in.ensures.err in
     rw p.1 (rw p.2 (refl, c.in_ok-old.old.items, c.in_ok-old.new.items, c.in_ok-old.ensures.ok, (taken, was_read c.in_ok-stored.stored, c.in_ok-stored.replica.ops, c.in_ok-stored.ensures.ok, out)))
 
 pub returns-in_err-let_in-clause-held : goal.returns-in_err-let_in-clause-held
 returns-in_err-let_in-clause-held g c =
-    inl (held_alone c.args.name.now (g.F.Files.shelf c.args.files.now) (g.F.Files.shelf c.take_feed.new.files) (g.F.Files.shelf c.let_in.new.files) c.in_ok-stored.ensures.ok.0 (inl c.let_in.ensures.stays.2))
+    inl (held_alone c.args.room.feed.now (g.F.Files.shelf c.args.files.now) (g.F.Files.shelf c.take_feed.new.files) (g.F.Files.shelf c.let_in.new.files) c.in_ok-stored.ensures.ok.0 (inl c.let_in.ensures.stays.2))
 
 -- ---- no place is taken, or the copy was not made
 
@@ -51,13 +51,13 @@ returns-in_err-copy-clause-err g c =
     c.deref.ensures.value c.in_err-copy.ensures.err in
     let taken : Shelf = g.F.Files.shelf c.take_feed.new.files in
     let opened : Shelf = g.F.Files.shelf c.let_in.new.files in
-    let let_in = subst (λ n. IsLetIn c.args.name.now n (is_compared c.args.older (was_read c.in_ok-stored.stored)) c.in_ok-stored.replica.ops taken opened) c.in_ok-stored.ensures.site c.in_ok-let_in.ensures.ok in
-    let here : IsOpenedHere c.args.name.now c.args.site c.args.older (g.F.Files.shelf c.args.files.now) opened (was_read c.in_ok-stored.stored) c.in_ok-stored.replica.ops = (taken, c.in_ok-stored.ensures.ok, let_in) in
+    let let_in = subst (λ n. IsLetIn c.args.room.feed.now n (is_compared c.args.room.older (was_read c.in_ok-stored.stored)) c.in_ok-stored.replica.ops taken opened) c.in_ok-stored.ensures.site c.in_ok-let_in.ensures.ok in
+    let here : IsOpenedHere c.args.room (g.F.Files.shelf c.args.files.now) opened (was_read c.in_ok-stored.stored) c.in_ok-stored.replica.ops = (taken, c.in_ok-stored.ensures.ok, let_in) in
     rw p.1 (rw p.2 (c.in_ok-old.old.items, c.in_ok-old.new.items, c.in_ok-old.ensures.ok, was_read c.in_ok-stored.stored, c.in_ok-stored.replica.ops, here, reported))
 
 pub returns-in_err-copy-clause-held : goal.returns-in_err-copy-clause-held
 returns-in_err-copy-clause-held g c =
-    inl (held_alone c.args.name.now (g.F.Files.shelf c.args.files.now) (g.F.Files.shelf c.take_feed.new.files) (g.F.Files.shelf c.let_in.new.files) c.in_ok-stored.ensures.ok.0 (inl c.let_in.ensures.stays.2))
+    inl (held_alone c.args.room.feed.now (g.F.Files.shelf c.args.files.now) (g.F.Files.shelf c.take_feed.new.files) (g.F.Files.shelf c.let_in.new.files) c.in_ok-stored.ensures.ok.0 (inl c.let_in.ensures.stays.2))
 
 pub exchanged-requires : goal.exchanged-requires
 exchanged-requires g c =
@@ -85,13 +85,13 @@ returns-in_err-text-clause-err g c =
     let why = subst (λ (l : List Symbol). (c.in_err-text.field-0.0 ≡ revisions.NoMemory) ⊎ ((c.in_err-text.field-0.0 ≡ revisions.Full) × (max_ops < length l))) same c.in_err-text.ensures.err in
     let taken : Shelf = g.F.Files.shelf c.take_feed.new.files in
     let opened : Shelf = g.F.Files.shelf c.let_in.new.files in
-    let let_in = subst (λ n. IsLetIn c.args.name.now n (is_compared c.args.older (was_read c.in_ok-stored.stored)) c.in_ok-stored.replica.ops taken opened) c.in_ok-stored.ensures.site c.in_ok-let_in.ensures.ok in
-    let here : IsOpenedHere c.args.name.now c.args.site c.args.older (g.F.Files.shelf c.args.files.now) opened (was_read c.in_ok-stored.stored) c.in_ok-stored.replica.ops = (taken, c.in_ok-stored.ensures.ok, let_in) in
-    rw p.1 (rw p.2 (ap g.W.Write.contents c.in_ok-copy.ensures.silent, old, new, c.in_ok-old.ensures.ok, was_read c.in_ok-stored.stored, c.in_ok-stored.replica.ops, here, text, made, unmade c.args.site c.in_ok-stored.replica.ops text c.in_err-text.field-0.0 why))
+    let let_in = subst (λ n. IsLetIn c.args.room.feed.now n (is_compared c.args.room.older (was_read c.in_ok-stored.stored)) c.in_ok-stored.replica.ops taken opened) c.in_ok-stored.ensures.site c.in_ok-let_in.ensures.ok in
+    let here : IsOpenedHere c.args.room (g.F.Files.shelf c.args.files.now) opened (was_read c.in_ok-stored.stored) c.in_ok-stored.replica.ops = (taken, c.in_ok-stored.ensures.ok, let_in) in
+    rw p.1 (rw p.2 (ap g.W.Write.contents c.in_ok-copy.ensures.silent, old, new, c.in_ok-old.ensures.ok, was_read c.in_ok-stored.stored, c.in_ok-stored.replica.ops, here, text, made, unmade c.args.room.site c.in_ok-stored.replica.ops text c.in_err-text.field-0.0 why))
 
 pub returns-in_err-text-clause-held : goal.returns-in_err-text-clause-held
 returns-in_err-text-clause-held g c =
-    inl (held_alone c.args.name.now (g.F.Files.shelf c.args.files.now) (g.F.Files.shelf c.take_feed.new.files) (g.F.Files.shelf c.let_in.new.files) c.in_ok-stored.ensures.ok.0 (inl c.let_in.ensures.stays.2))
+    inl (held_alone c.args.room.feed.now (g.F.Files.shelf c.args.files.now) (g.F.Files.shelf c.take_feed.new.files) (g.F.Files.shelf c.let_in.new.files) c.in_ok-stored.ensures.ok.0 (inl c.let_in.ensures.stays.2))
 
 pub returns-in_err-tally-clause-err : goal.returns-in_err-tally-clause-err
 returns-in_err-tally-clause-err g c =
@@ -116,13 +116,13 @@ returns-in_err-tally-clause-err g c =
     let unrefused = subst (λ l. copy_of c.in_ok-stored.replica.ops ≡ l → c.in_err-tally.field-0.0 ≡ revisions.NoMemory) c.deref-5.ensures.value c.in_err-tally.ensures.unrefused in
     let taken : Shelf = g.F.Files.shelf c.take_feed.new.files in
     let opened : Shelf = g.F.Files.shelf c.let_in.new.files in
-    let let_in = subst (λ n. IsLetIn c.args.name.now n (is_compared c.args.older (was_read c.in_ok-stored.stored)) c.in_ok-stored.replica.ops taken opened) c.in_ok-stored.ensures.site c.in_ok-let_in.ensures.ok in
-    let here : IsOpenedHere c.args.name.now c.args.site c.args.older (g.F.Files.shelf c.args.files.now) opened (was_read c.in_ok-stored.stored) c.in_ok-stored.replica.ops = (taken, c.in_ok-stored.ensures.ok, let_in) in
+    let let_in = subst (λ n. IsLetIn c.args.room.feed.now n (is_compared c.args.room.older (was_read c.in_ok-stored.stored)) c.in_ok-stored.replica.ops taken opened) c.in_ok-stored.ensures.site c.in_ok-let_in.ensures.ok in
+    let here : IsOpenedHere c.args.room (g.F.Files.shelf c.args.files.now) opened (was_read c.in_ok-stored.stored) c.in_ok-stored.replica.ops = (taken, c.in_ok-stored.ensures.ok, let_in) in
     rw p.1 (rw p.2 (ap g.W.Write.contents c.in_ok-copy.ensures.silent, old, new, c.in_ok-old.ensures.ok, was_read c.in_ok-stored.stored, c.in_ok-stored.replica.ops, here, c.in_ok-text.text.items, exchanged, inr (c.revise.new.replica.ops, by, unrefused, value)))
 
 pub returns-in_err-tally-clause-held : goal.returns-in_err-tally-clause-held
 returns-in_err-tally-clause-held g c =
-    inl (held_alone c.args.name.now (g.F.Files.shelf c.args.files.now) (g.F.Files.shelf c.take_feed.new.files) (g.F.Files.shelf c.let_in.new.files) c.in_ok-stored.ensures.ok.0 (inl c.let_in.ensures.stays.2))
+    inl (held_alone c.args.room.feed.now (g.F.Files.shelf c.args.files.now) (g.F.Files.shelf c.take_feed.new.files) (g.F.Files.shelf c.let_in.new.files) c.in_ok-stored.ensures.ok.0 (inl c.let_in.ensures.stays.2))
 
 -- ---- the feed was not stored
 
@@ -148,10 +148,10 @@ returns-in_err-report_and_keep-clause-err g c =
     let none = subst (λ l. copy_of c.in_ok-stored.replica.ops ≡ l → c.revise.new.replica.ops ≡ c.in_ok-stored.replica.ops) c.deref-5.ensures.value c.in_ok-tally.ensures.none in
     let taken : Shelf = g.F.Files.shelf c.take_feed.new.files in
     let opened : Shelf = g.F.Files.shelf c.let_in.new.files in
-    let let_in = subst (λ n. IsLetIn c.args.name.now n (is_compared c.args.older (was_read c.in_ok-stored.stored)) c.in_ok-stored.replica.ops taken opened) c.in_ok-stored.ensures.site c.in_ok-let_in.ensures.ok in
-    let here : IsOpenedHere c.args.name.now c.args.site c.args.older (g.F.Files.shelf c.args.files.now) opened (was_read c.in_ok-stored.stored) c.in_ok-stored.replica.ops = (taken, c.in_ok-stored.ensures.ok, let_in) in
+    let let_in = subst (λ n. IsLetIn c.args.room.feed.now n (is_compared c.args.room.older (was_read c.in_ok-stored.stored)) c.in_ok-stored.replica.ops taken opened) c.in_ok-stored.ensures.site c.in_ok-let_in.ensures.ok in
+    let here : IsOpenedHere c.args.room (g.F.Files.shelf c.args.files.now) opened (was_read c.in_ok-stored.stored) c.in_ok-stored.replica.ops = (taken, c.in_ok-stored.ensures.ok, let_in) in
     let unkept = subst
-    (λ w. IsUnkept c.args.name.now (edited_line t.inserted t.deleted) opened (g.F.Files.shelf c.report_and_keep.new.files) (g.W.Write.contents w) (g.W.Write.contents c.report_and_keep.new.writer) c.in_err-report_and_keep.field-0.0)
+    (λ w. IsUnkept c.args.room.feed.now (edited_line t.inserted t.deleted) opened (g.F.Files.shelf c.report_and_keep.new.files) (g.W.Write.contents w) (g.W.Write.contents c.report_and_keep.new.writer) c.in_err-report_and_keep.field-0.0)
     c.in_ok-copy.ensures.silent c.in_err-report_and_keep.ensures.err in
     rw p.1 (rw p.2 (old, new, c.in_ok-old.ensures.ok, opened, was_read c.in_ok-stored.stored, c.in_ok-stored.replica.ops, here, c.revise.new.replica.ops, t.inserted, t.deleted, (c.in_ok-text.text.items, exchanged, by, sparing, none), unkept))
 
@@ -161,7 +161,7 @@ returns-in_err-report_and_keep-clause-held g c =
     let opened : Shelf = g.F.Files.shelf c.let_in.new.files in
     let kept : Shelf = g.F.Files.shelf c.report_and_keep.new.files in
     let on : HoldsOn taken.held kept.held = holds_through taken.held opened.held kept.held (inl c.let_in.ensures.stays.2) c.report_and_keep.ensures.held in
-    inl (held_alone c.args.name.now (g.F.Files.shelf c.args.files.now) taken kept c.in_ok-stored.ensures.ok.0 on)
+    inl (held_alone c.args.room.feed.now (g.F.Files.shelf c.args.files.now) taken kept c.in_ok-stored.ensures.ok.0 on)
 
 -- ---- it was
 
@@ -186,12 +186,12 @@ returns-clause-ok g c =
     let none = subst (λ l. copy_of c.in_ok-stored.replica.ops ≡ l → c.revise.new.replica.ops ≡ c.in_ok-stored.replica.ops) c.deref-5.ensures.value c.in_ok-tally.ensures.none in
     let taken : Shelf = g.F.Files.shelf c.take_feed.new.files in
     let opened : Shelf = g.F.Files.shelf c.let_in.new.files in
-    let let_in = subst (λ n. IsLetIn c.args.name.now n (is_compared c.args.older (was_read c.in_ok-stored.stored)) c.in_ok-stored.replica.ops taken opened) c.in_ok-stored.ensures.site c.in_ok-let_in.ensures.ok in
-    let here : IsOpenedHere c.args.name.now c.args.site c.args.older (g.F.Files.shelf c.args.files.now) opened (was_read c.in_ok-stored.stored) c.in_ok-stored.replica.ops = (taken, c.in_ok-stored.ensures.ok, let_in) in
+    let let_in = subst (λ n. IsLetIn c.args.room.feed.now n (is_compared c.args.room.older (was_read c.in_ok-stored.stored)) c.in_ok-stored.replica.ops taken opened) c.in_ok-stored.ensures.site c.in_ok-let_in.ensures.ok in
+    let here : IsOpenedHere c.args.room (g.F.Files.shelf c.args.files.now) opened (was_read c.in_ok-stored.stored) c.in_ok-stored.replica.ops = (taken, c.in_ok-stored.ensures.ok, let_in) in
     let kept = subst
-    (λ w. IsKept c.args.name.now c.revise.new.replica.ops (edited_line t.inserted t.deleted) (was_read c.in_ok-stored.stored) opened (g.F.Files.shelf c.report_and_keep.new.files) (g.W.Write.contents w) (g.W.Write.contents c.report_and_keep.new.writer))
+    (λ w. IsKept c.args.room.feed.now c.revise.new.replica.ops (edited_line t.inserted t.deleted) (was_read c.in_ok-stored.stored) opened (g.F.Files.shelf c.report_and_keep.new.files) (g.W.Write.contents w) (g.W.Write.contents c.report_and_keep.new.writer))
     c.in_ok-copy.ensures.silent c.in_ok-report_and_keep.ensures.ok in
-    let marked = subst (λ n. IsMarked c.args.name.now n c.revise.new.replica.ops (g.F.Files.shelf c.report_and_keep.new.files) (g.F.Files.shelf c.mark.new.files)) (c.revise.ensures.site ∙ c.in_ok-stored.ensures.site) c.mark.ensures.marked in
+    let marked = subst (λ n. IsMarked c.args.room.feed.now n c.revise.new.replica.ops (g.F.Files.shelf c.report_and_keep.new.files) (g.F.Files.shelf c.mark.new.files)) (c.revise.ensures.site ∙ c.in_ok-stored.ensures.site) c.mark.ensures.marked in
     (old, new, c.in_ok-old.ensures.ok, opened, was_read c.in_ok-stored.stored, c.in_ok-stored.replica.ops, here, c.revise.new.replica.ops, t.inserted, t.deleted, (c.in_ok-text.text.items, exchanged, by, sparing, none), g.F.Files.shelf c.report_and_keep.new.files, kept, marked)
 
 pub returns-clause-held : goal.returns-clause-held
@@ -201,4 +201,4 @@ returns-clause-held g c =
     let kept : Shelf = g.F.Files.shelf c.report_and_keep.new.files in
     let last : Shelf = g.F.Files.shelf c.mark.new.files in
     let on : HoldsOn taken.held kept.held = holds_through taken.held opened.held kept.held (inl c.let_in.ensures.stays.2) c.report_and_keep.ensures.held in
-    inl (held_alone c.args.name.now (g.F.Files.shelf c.args.files.now) taken last c.in_ok-stored.ensures.ok.0 (holds_through taken.held kept.held last.held on c.mark.ensures.held))
+    inl (held_alone c.args.room.feed.now (g.F.Files.shelf c.args.files.now) taken last c.in_ok-stored.ensures.ok.0 (holds_through taken.held kept.held last.held on c.mark.ensures.held))
