@@ -48,15 +48,23 @@ abbrev pub words_end : Terms → List Symbol → LineValues → ℕ
 words_end terms copy line =
     after_words terms copy (drawn_space terms line) 0 line.words - (if line.added then 0 else drawn_space terms line)
 
--- the boxes of its fills
-abbrev pub line_boxes : Terms → List Symbol → Paper → (y : ℕ) → LineValues → List ℕ
-line_boxes terms copy paper y line = fills_text paper y (words_end terms copy line) (zip line.fills (fill_widths terms))
+-- the boxes of the fills of a line, whose words end here
+abbrev pub boxes_from : Terms → Paper → (y end : ℕ) → LineValues → List ℕ
+boxes_from terms paper y end line = fills_text paper y end (zip line.fills (fill_widths terms))
 
--- its fault beside it, 6 points from the frame, or from the words where these go further
+-- those behind its words
+abbrev pub line_boxes : Terms → List Symbol → Paper → (y : ℕ) → LineValues → List ℕ
+line_boxes terms copy paper y line = boxes_from terms paper y (words_end terms copy line) line
+
+-- where what is written beside a line begins: 6 points from the frame, or from the words where these go further
+abbrev pub beside : Terms → Paper → LineValues → ℕ
+beside terms paper line = across paper.scale.pica (frame_or terms line) + 600
+
+-- its fault beside it
 abbrev pub fault_text : Terms → Paper → (y : ℕ) → LineValues → List JobFault → List ℕ
 fault_text terms paper y line [] = []
 fault_text terms paper y line (fault ∷ more) =
-    text_at (codes "c") (across paper.scale.pica (frame_or terms line) + 600) y
+    text_at (codes "c") (beside terms paper line) y
     ++ (cause_and_limits paper.scale line.wedge_sum fault ++ text_end)
 
 -- a line that stands here

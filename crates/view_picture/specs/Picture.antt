@@ -18,7 +18,12 @@ use Rattle.view_picture.specs.declared.paper.Paper.{Paper}
 -- margin; boxes and the frame
 unfoldable pub looks_text : List ℕ
 looks_text =
-    codes "text{font-family:Times New Roman,Liberation Serif,Times,serif;white-space:pre}.w{direction:ltr;unicode-bidi:bidi-override;font-variant-ligatures:none;font-kerning:none}.i{font-style:italic}.s{font-variant:small-caps;font-variant-caps:all-small-caps}.m{fill:#c00}.f,.c{fill:#b00}.c,.h,.n{font-family:sans-serif;font-size:8px}.n{fill:#777;text-anchor:end;user-select:none}.b{fill:#e4e9ef;stroke:#a9b4c0;stroke-width:.3}.frame{fill:#fff;stroke:#999;stroke-width:.5}"
+    codes "text{font-family:Times New Roman,Liberation Serif,Times,serif;white-space:pre}"
+    ++ (codes ".w{direction:ltr;unicode-bidi:bidi-override;font-variant-ligatures:none;font-kerning:none}"
+    ++ (codes ".i{font-style:italic}.s{font-variant:small-caps;font-variant-caps:all-small-caps}.m{fill:#c00}"
+    ++ (codes ".f,.c{fill:#b00}.c,.h,.n{font-family:sans-serif;font-size:8px}"
+    ++ (codes ".n{fill:#777;text-anchor:end;user-select:none}.b{fill:#e4e9ef;stroke:#a9b4c0;stroke-width:.3}"
+    ++ codes ".frame{fill:#fff;stroke:#999;stroke-width:.5}"))))
 
 abbrev pub style_text : List ℕ
 style_text = codes "<style>" ++ (looks_text ++ codes "</style>\n")

@@ -25,7 +25,7 @@ mod words;
 
 pub use heads::{head_y, put_lacking_of};
 pub use letters::{Dress, dress_of};
-pub use lines::{put_line_at, put_text_at};
+pub use lines::{beside, put_line_at, put_text_at};
 pub use picture::{
     frame_height, looks, page_width, paper_of, put_frame, put_no_galley_picture, put_picture,
     put_size, put_why_words,

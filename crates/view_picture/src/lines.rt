@@ -3,7 +3,7 @@
 ghost use Rattle.std.specs.Prelude.{◌≡◌, ◌+◌, ◌++◌, ◌≤◌, ◌^◌, length, All, IfOk, OnOk, string_bytes};
 ghost use Rattle.desk_lines.specs.Words.{most_symbols};
 ghost use Rattle.view_galley.specs.Galley.{Stands};
-ghost use Rattle.view_picture.specs.Lines.{class_of, fault_text, line_at, line_boxes, line_text, line_words};
+ghost use Rattle.view_picture.specs.Lines.{beside, boxes_from, class_of, fault_text, line_at, line_text, line_words};
 ghost use Rattle.view_picture.specs.Lines.{lines_text, margin_text, number_text, text_at, words_at, words_end};
 
 use crate::boxes::put_fills;
@@ -108,19 +108,25 @@ fn put_line_words<A: Allocator + Copy>(
 fn put_line_boxes<A: Allocator + Copy>(
     out: &mut String<A>,
     terms: &Terms,
-    copy: &[Symbol],
     paper: Paper,
     y: u128,
     end: u128,
     line: &Line<A>,
 ) -> Result<(), AllocError>
-    requires end { end ≡ words_end terms.now copy.now line.now }
     requires limit { end ≤ 2 ^ 106 }
     requires fills { length line.now.fills ≤ length terms.now.case.fill }
     ensures { OnOk result
-        (string_bytes out.new ≡ string_bytes out.old ++ line_boxes terms.now copy.now paper y line.now) }
+        (string_bytes out.new ≡ string_bytes out.old ++ boxes_from terms.now paper y end line.now) }
 {
     put_fills(out, paper, y, end, line.fills(), terms.fill_widths())
+}
+
+/// Where what is written beside a line begins, from the left: 6 points from the frame, or from the words where these go
+/// further.
+pub fn beside<A: Allocator>(terms: &Terms, paper: Paper, line: &Line<A>) -> u128
+    ensures { result ≡ beside terms.now paper line.now }
+{
+    across(paper.scale.pica, frame_or(terms, line)) + 600
 }
 
 /// Writes a fault beside its line.
@@ -138,8 +144,7 @@ fn put_fault<A: Allocator + Copy>(
     let Some(fault) = line.fault() else {
         return Ok(());
     };
-    let x = across(paper.scale.pica, frame_or(terms, line)) + 600;
-    put_text_at(out, "c", x, y)?;
+    put_text_at(out, "c", beside(terms, paper, line), y)?;
     put_cause(out, paper.scale, line.wedge_sum(), fault)?;
     out.push_str(text_end())
 }
@@ -159,7 +164,7 @@ pub fn put_line_at<A: Allocator + Copy>(
 {
     put_margin(out, y, line)?;
     let end = put_line_words(out, terms, copy, paper, y, line)?;
-    put_line_boxes(out, terms, copy, paper, y, end, line)?;
+    put_line_boxes(out, terms, paper, y, end, line)?;
     put_fault(out, terms, paper, y, line)
 }
 

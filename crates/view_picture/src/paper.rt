@@ -49,7 +49,8 @@ pub fn leading(paper: Paper) -> u128
 /// Where the letters of the line of a number stand, from the top.
 pub fn foot(paper: Paper, number: usize) -> u128
     requires { paper.top ≤ 2 ^ 100 }
-    ensures { result ≡ foot paper number }
+    ensures value { result ≡ foot paper number }
+    ensures limit { result ≤ 2 ^ 101 }
 {
     paper.top + leading(paper) * number as u128
 }

@@ -147,7 +147,8 @@ fn put_group<'a, A: Allocator + Copy>(
 /// How wide the picture of a galley is, in hundredths of a point: 270 points beside the frame, or the widest line, are
 /// for the causes.
 pub fn page_width<'a, A: Allocator>(paper: Paper, galley: &Galley<'a, A>) -> u128
-    ensures { result ≡ page_width paper galley.now }
+    ensures value { result ≡ page_width paper galley.now }
+    ensures limit { result ≤ 2 ^ 121 }
 {
     across(paper.scale.pica, widest(galley.terms(), galley.lines())) + 27_000
 }

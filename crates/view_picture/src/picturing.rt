@@ -69,8 +69,8 @@ fn drawn_of<A: Allocator + Copy>(
 /// stores the picture under the name of a target; where there is no galley, a picture that says why. A line that can't
 /// be set is drawn with its fault, and no refusal. Settings that are tried count in place of the copy's, and are stored
 /// nowhere. No name is taken: a feed is stored by a rename, so what is read is a whole feed. Where a file that is no
-/// picture stands under the target, which is not forced, the fault is `Taken`. A target that is forced, and is the feed,
-/// the text, the case or the wedge, is replaced as any other. After an `Err` the target has its old bytes.
+/// picture stands under the target, which is not forced, the fault is `Taken`. A target that is forced, and is the
+/// feed, the text, the case or the wedge, is replaced as any other. After an `Err` the target has its old bytes.
 pub fn picture_job<F: Files, A: Allocator + Copy>(
     memory: Memory<A>,
     files: &mut F,

@@ -5,4 +5,4 @@ use Rattle.view_picture.proofs.picture.put_page.Goals as goal
 
 pub returns : goal.returns
 returns g c =
-    subst (λ (text : List ℕ). OnOk c.put_begin.result (string_bytes c.put_begin.new.out ≡ string_bytes c.args.out.now ++ text)) (ap₂ begin_text c.page_width-width.ensures c.page_height-height.ensures) c.put_begin.ensures
+    subst (λ (text : List ℕ). OnOk c.put_begin.result (string_bytes c.put_begin.new.out ≡ string_bytes c.args.out.now ++ text)) (ap₂ begin_text c.page_width-width.ensures.value c.page_height-height.ensures) c.put_begin.ensures
