@@ -49,7 +49,8 @@ ShowsFigures pitch (extents.Lines first last) = ⊥
 ShowsFigures None (extents.Figures over under) = (over ≡ 1) × (under ≡ 8)
 ShowsFigures (Some text) (extents.Figures over under) = IsPitch text over under
 
--- by the texts of `--lines` and `--pitch`, and whether `--stats` is set: the last two together, and neither with the first
+-- by the texts of `--lines` and `--pitch`, and whether `--stats` is set: the last two together, and neither with the
+-- first
 abbrev pub IsShownBy : (lines : Option Text) → (stats : Bool) → (pitch : Option Text) → Extent → Type 0
 IsShownBy None false None extent = extent ≡ extents.Whole
 IsShownBy None false (Some pitch) extent = ⊥
@@ -60,8 +61,8 @@ IsShownBy (Some text) true pitch extent = ⊥
 
 -- ---- what a galley is of
 
--- by the name of a feed, that of a text, a counter, and whether `--plain` is set: one name of the two, the counter with a
--- feed alone, the flag with a text alone
+-- by the name of a feed, that of a text, a counter, and whether `--plain` is set: one name of the two, the counter
+-- with a feed alone, the flag with a text alone
 abbrev pub IsSource : (feed text : Option Text) → (until : Option ℕ) → (plain : Bool) → Source → Type 0
 IsSource None None until plain source = ⊥
 IsSource (Some feed) (Some text) until plain source = ⊥

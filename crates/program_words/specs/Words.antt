@@ -171,7 +171,8 @@ sorts_app = with_rule (with_rule (with_rule (with_rule (new_app (codes "sorts"))
 
 abbrev pub replace_app : App
 replace_app = with_rule (with_rule (with_rule (with_rule (with_rule (on_site (codes "replace"))
-    (flag_rule (codes "plain"))) (text_rule (codes "old"))) (text_rule (codes "new"))) at_rule) (flag_rule (codes "all"))
+    (flag_rule (codes "plain"))) (text_rule (codes "old"))) (text_rule (codes "new"))) at_rule)
+    (flag_rule (codes "all"))
 
 abbrev pub check_app : App
 check_app = with_rule (new_app (codes "check")) files_rule

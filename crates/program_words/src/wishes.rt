@@ -95,8 +95,8 @@ pub enum Wish<'a> {
         forks: bool,
         review: bool,
     },
-    /// What each of two stored feeds has alone: of one as it was at a counter, where one is given, and the other feed or,
-    /// where none is named, the same.
+    /// What each of two stored feeds has alone: of one as it was at a counter, where one is given, and the other feed
+    /// or, where none is named, the same.
     Diff {
         one: &'a str,
         until: Option<u64>,
@@ -163,8 +163,8 @@ pub enum Wish<'a> {
         picture: Option<&'a str>,
         force: bool,
     },
-    /// The sorts that the copy of a stored feed wants of a case, as it was at a counter, where one is given, and whether
-    /// the case's layout is wanted too.
+    /// The sorts that the copy of a stored feed wants of a case, as it was at a counter, where one is given, and
+    /// whether the case's layout is wanted too.
     Sorts {
         feed: &'a str,
         until: Option<u64>,

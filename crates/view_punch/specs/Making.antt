@@ -65,7 +65,8 @@ other_of set case wedge = other_number (by_key (settings_of set)) case wedge
 
 -- The copy is let through, and the job has faults. Their line was written, with all the settings that are missing, and
 -- the number that is another, if one is, is known; or the line was not written.
-abbrev pub HasFaults : Bool → OpSet → CaseValues → WedgeValues → (before after : Option (List ℕ)) → PreviewFault → Type 0
+abbrev pub HasFaults : Bool → OpSet → CaseValues → WedgeValues → (before after : Option (List ℕ)) → PreviewFault
+    → Type 0
 HasFaults faulty set case wedge before after fault =
     IsLetThrough faulty set × (found : List JobFault) × (job_of set case wedge ≡ Err found)
     × (((fault ≡ faults.Faulty (other_of set case wedge)) × Appends before after (job_line (missing_of set) found))

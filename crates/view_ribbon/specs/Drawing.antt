@@ -21,7 +21,8 @@ use Rattle.view_ribbon.specs.Picture.{picture_text}
 
 -- this is the picture of the rows whose ribbon the bytes are, or of those of lines, by a case
 abbrev pub IsPicture : Option Lines → List ℕ → CaseValues → List ℕ → Type 0
-IsPicture lines bytes case picture = (rows : List RibbonRow) × IsRibbon bytes rows × (picture ≡ picture_text lines rows case)
+IsPicture lines bytes case picture =
+    (rows : List RibbonRow) × IsRibbon bytes rows × (picture ≡ picture_text lines rows case)
 
 -- so it is of the bytes that the ribbon's name stands for, by the case that the one file gives
 abbrev pub IsPictureOf : Sources → Option Lines → Shelf → List ℕ → Type 0

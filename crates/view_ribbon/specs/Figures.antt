@@ -122,7 +122,8 @@ case_text lines = codes "\n  row  matrices\n" ++ table_text lines case_rows
 -- what is below the head
 unfoldable pub below_text : Pica → Pitch → ℕ → List Line → List ℕ
 below_text pica pitch rows lines =
-    widest_text pica lines ++ (tightest_text lines ++ (length_text rows pitch ++ (counts_text lines ++ case_text lines)))
+    widest_text pica lines
+    ++ (tightest_text lines ++ (length_text rows pitch ++ (counts_text lines ++ case_text lines)))
 
 -- the figures of the lines that so many rows cast
 abbrev pub summary_text : Pica → Pitch → ℕ → List Line → List ℕ

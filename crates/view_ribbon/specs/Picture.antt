@@ -30,7 +30,8 @@ open_text count =
 -- how numbers and meanings look, and the ground
 unfoldable pub style_text : List ℕ
 style_text =
-    codes "<style>.n{text-anchor:end;fill:#777}.m{font-size:11px}</style>\n<rect width=\"100%\" height=\"100%\" fill=\"#fff\"/>\n"
+    codes "<style>.n{text-anchor:end;fill:#777}.m{font-size:11px}</style>"
+    ++ codes "\n<rect width=\"100%\" height=\"100%\" fill=\"#fff\"/>\n"
 
 -- the title begins
 unfoldable pub title_open : List ℕ

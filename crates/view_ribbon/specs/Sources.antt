@@ -44,10 +44,12 @@ GiveAll from shelf = (bytes : List ℕ) × (case : CaseValues) × (wedge : Wedge
 -- why they give nothing: the ribbon is not read; or it is, and then the case or the wedge is refused; or memory runs
 -- out by one of the three, and the device did not fail
 abbrev pub AreRefused : Sources → Shelf → Shelf → SourcesFault → Type 0
-AreRefused from before after (refusals.Ribbon why) = (why ≢ files.NoMemory) × Reads (before.kept from.ribbon.now) (Err why)
+AreRefused from before after (refusals.Ribbon why) =
+    (why ≢ files.NoMemory) × Reads (before.kept from.ribbon.now) (Err why)
     × IsCounted why before after
 AreRefused from before after (refusals.Input why) = (bytes : List ℕ) × Reads (before.kept from.ribbon.now) (Ok bytes)
     × BothGive from.case.now from.wedge.now before (Err why) after
 AreRefused from before after refusals.NoMemory =
     (Reads (before.kept from.ribbon.now) (Err files.NoMemory) × (after ≡ before))
-    ⊎ ((bytes : List ℕ) × Reads (before.kept from.ribbon.now) (Ok bytes) × BothLackMemory from.case.now from.wedge.now before after)
+    ⊎ ((bytes : List ℕ) × Reads (before.kept from.ribbon.now) (Ok bytes)
+    × BothLackMemory from.case.now from.wedge.now before after)
