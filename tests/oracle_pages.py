@@ -3,7 +3,7 @@ independent program. Places and sizes are in hundredths of a point."""
 import oracle
 import reported_galley
 
-EDGE, TOP, BELOW, BESIDE = 10000, 4400, 1000, 27000
+EDGE, TOP, BELOW, BESIDE, MORE = 10000, 4400, 1000, 27000, 5000
 NAMED = {"&": "&amp;", "<": "&lt;", ">": "&gt;", '"': "&quot;"}
 LOOKS = (
     "text{font-family:Times New Roman,Liberation Serif,Times,serif;white-space:pre}"
@@ -11,14 +11,15 @@ LOOKS = (
     ".s{font-variant:small-caps;font-variant-caps:all-small-caps}.m{fill:#c00}.f,.c{fill:#b00}.c,.h,.n{font-family:sans-serif;font-size:8px}"
     ".n{fill:#777;text-anchor:end;user-select:none}.b{fill:#e4e9ef;stroke:#a9b4c0;stroke-width:.3}.frame{fill:#fff;stroke:#999;stroke-width:.5}")
 RULES = (".paper{fill:#fbf9f2}.r{stroke:#fff;stroke-width:.3;fill:none}"
-         ".e{fill:none}.d{stroke:#111;stroke-width:.6;fill:none}.d.f{stroke:#b00;fill:none}")
+         ".e{fill:none}.d{stroke:#111;stroke-width:.6;fill:none}.d.f{stroke:#b00;fill:none}"
+         ".y{fill:#b00;font-family:sans-serif;font-size:6px}")
 LOOKS_OF_PAGES = LOOKS + (
     "body{margin:0;font-family:sans-serif;color:#111;background:#fbf9f2}main{padding:10pt;font-size:9pt}h1{font-size:13pt}h2{font-size:11pt}"
     "table{border-collapse:collapse}td,th{text-align:left;padding:1pt 6pt;border:1px solid #999}"
     "svg{display:block;break-after:page;max-width:100%;height:auto}main{break-after:page}"
-    + RULES + "a{color:#00c}p.c{color:#b00}@media print{svg{max-width:none}}"
+    + RULES + "a{color:#00c}p.c{color:#b00}@page m{margin:24pt 10pt}@media print{svg{max-width:none}main{page:m;padding:0}}"
     "@media screen and (prefers-color-scheme:dark){body{color:#ddd;background:#16181b}.paper{fill:#1d2024}.frame{fill:#23272c;stroke:#666}"
-    "text{fill:#ddd}.r{stroke:#23272c}.b{fill:#39414a;stroke:#667}.n{fill:#999}.f,.c,.m,p.c{fill:#ff8a80;color:#ff8a80}a{color:#8ab4f8}"
+    "text{fill:#ddd}.r{stroke:#23272c}.b{fill:#39414a;stroke:#667}.n{fill:#999}.f,.c,.m,.y,p.c{fill:#ff8a80;color:#ff8a80}a{color:#8ab4f8}"
     ".d{stroke:#ddd}.d.f{fill:none;stroke:#ff8a80}}")
 BEGIN = ('<!DOCTYPE html>\n<html xmlns="http://www.w3.org/1999/xhtml" lang="en">\n<head>\n<meta charset="utf-8"/>\n'
          '<meta name="generator" content="copydesk"/>\n')
@@ -112,9 +113,15 @@ class Drawn:
                 out += '<rect class="b"%s%s' % (attribute("x", left), attribute("width", self.across(end + width) - left))
                 out += "%s%s/>\n" % (attribute("y", y - height), attribute("height", height))
                 end += width
-        if line.fault:
-            out += text_at("c", self.across(max(self.measure, self.reach(line))) + 600, y, line.fault)
-        return out
+        return out + (text_at("c", self.beside(line), y, line.fault) if line.fault else "")
+
+    def beside(self, line):
+        """Where what is told of a line begins."""
+        return self.across(max(self.measure, self.reach(line))) + 600
+
+    def way(self, line, y):
+        """The way out of a line at fault, below its cause."""
+        return text_at("y", self.beside(line), y + 600, escaped(line.way_out(self.point, self.galley.width))) if line.fault else ""
 
     def rules(self, line, y):
         """A thin rule at the left edge of each matrix of a word but its first."""
@@ -173,7 +180,7 @@ class Pages:
         most = (height * 100 - TOP - BELOW - self.drawn.set // 2) // self.drawn.leading
         self.count = max(1, most)
         self.height = max(height * 100, TOP + self.drawn.frame_height(1) + BELOW)
-        self.width = self.drawn.page_width()
+        self.width = self.drawn.page_width() + MORE
         self.lines = [galley.lines[at:at + self.count] for at in range(0, len(galley.lines), self.count)]
 
     def page(self, number, names, told, looks=""):
@@ -187,7 +194,8 @@ class Pages:
         out += "<g%s>\n" % attribute("font-size", drawn.set)
         for k, line in enumerate(self.lines[number - 1], 1):
             y = TOP + drawn.leading * k
-            out += '<g id="line-%d">\n%s%s%s</g>\n' % (line.number, drawn.line(line, y), drawn.rules(line, y), drawn.dashes(line, y))
+            parts = drawn.line(line, y), drawn.rules(line, y), drawn.dashes(line, y), drawn.way(line, y)
+            out += '<g id="line-%d">\n%s</g>\n' % (line.number, "".join(parts))
         return out + "</g>\n</svg>\n"
 
 

@@ -168,6 +168,9 @@ def reported(name, root, proof):
     due = re.findall(r"(?m)^line (\d+): (.*), places (\d+)\.\.\d+\n  \| .*\n  = (.*)$", proof)
     if rows[1:] != [[number, place, cause, pictures.shown(way)] for number, cause, place, way in due] or ("No line is at fault." in told) != (not due):
         fail("%s: the lines at fault are not those of the proof" % name)
+    beside = [(group.get("id"), words_of(it)) for group in root.iter(SVG + "g") for it in group if it.get("class") == "y"]
+    if beside != [("line-" + number, pictures.shown(way)) for number, _, _, way in due]:
+        fail("%s: the ways out on the pages are not those of the table" % name)
 
 
 def document(room, name, source, *more, height="a4", status=None):

@@ -1,24 +1,25 @@
 """Wrong models for wrong_models.py: of ribbons of several feeds, of marks where a galley ends, and of documents with pages."""
 
-ROWS = "        rows += rows_of(held, case, wedge, metal, faulty)\n"
+ROWS = "        rows += rows_of(held, feed, case, wedge, metal, faulty)\n"
 MARKS = "    texts = with_marks(line_texts(lines, points), ends_of_galleys(images_of(data)))\n"
 PAGE = "842 if height is None else height).encode()"
 
 # Of ribbons of several feeds.
 PAGES = {
-    "the second head row is dropped": [(ROWS, "        rows += rows_of(held, case, wedge, metal, faulty)[bool(rows):]\n")],
-    "feeds are turned": [(ROWS, "        rows = rows_of(held, case, wedge, metal, faulty) + rows\n")],
-    "the first feed alone": [(ROWS, "        rows = rows or rows_of(held, case, wedge, metal, faulty)\n")],
-    "the last feed alone": [(ROWS, "        rows = rows_of(held, case, wedge, metal, faulty)\n")],
+    "the second head row is dropped": [(ROWS, "        rows += rows_of(held, feed, case, wedge, metal, faulty)[bool(rows):]\n")],
+    "feeds are turned": [(ROWS, "        rows = rows_of(held, feed, case, wedge, metal, faulty) + rows\n")],
+    "the first feed alone": [(ROWS, "        rows = rows or rows_of(held, feed, case, wedge, metal, faulty)\n")],
+    "the last feed alone": [(ROWS, "        rows = rows_of(held, feed, case, wedge, metal, faulty)\n")],
     "a feed that is given twice is taken once": [("    for feed in feeds:\n        held = held_in", "    for feed in dict.fromkeys(feeds):\n        held = held_in")],
     "the rows of the first feed are counted": [("    metal, rows = None, []\n", "    metal, rows, first = None, [], None\n"), (ROWS, ROWS + "        first = first or len(rows)\n"),
                                                ("    ribbon = oracle.ribbon_bytes(rows)\n", "    ribbon = oracle.ribbon_bytes(rows)\n    ribbon = ribbon[:4] + first.to_bytes(4, \"big\") + ribbon[8:]\n")],
     "each feed has a header": [("    ribbon = oracle.ribbon_bytes(rows)\n", "    ribbon = b\"\".join(oracle.ribbon_bytes(rows_of(held_in(files, feed), case, wedge, metal, faulty)) for feed in feeds)\n")],
     "all feeds are opened first": [("    for feed in feeds:\n        held = held_in", "    for feed in [feed for feed in feeds if held_in(files, feed) is not None]:\n        held = held_in")],
     "the case and the wedge are read before the first feed": [("    metal, rows = None, []\n", "    metal, rows = metal_in(files, case, wedge), []\n")],
-    "faults of a later copy are punched": [(ROWS, "        rows += rows_of(held, case, wedge, metal, faulty or bool(rows))\n")],
-    "a feed with faults is left out": [(ROWS, "        try:\n            rows += rows_of(held, case, wedge, metal, faulty)\n        except Stops:\n            if len(feeds) == 1:\n                raise\n")],
-    "what was made before a fault is stored": [(ROWS, "        try:\n            rows += rows_of(held, case, wedge, metal, faulty)\n        except Stops:\n            if rows:\n                put(files, to, oracle.ribbon_bytes(rows), force)\n            raise\n")],
+    "the first feed is named at fault": [(ROWS, ROWS.replace("(held, feed,", "(held, feeds[0],"))],
+    "faults of a later copy are punched": [(ROWS, "        rows += rows_of(held, feed, case, wedge, metal, faulty or bool(rows))\n")],
+    "a feed with faults is left out": [(ROWS, "        try:\n            rows += rows_of(held, feed, case, wedge, metal, faulty)\n        except Stops:\n            if len(feeds) == 1:\n                raise\n")],
+    "what was made before a fault is stored": [(ROWS, "        try:\n            rows += rows_of(held, feed, case, wedge, metal, faulty)\n        except Stops:\n            if rows:\n                put(files, to, oracle.ribbon_bytes(rows), force)\n            raise\n")],
     "a ribbon in the place of a later feed": [("    spare(to, (*feeds, case, wedge), \"ribbon\")", "    spare(to, (feeds[0], case, wedge), \"ribbon\")")],
 }
 
@@ -64,7 +65,9 @@ PAGES |= {
     "rules of the first word alone": [("for at in places for here in at[1:-1]]", "for at in places[:1] for here in at[1:-1]]")],
     "rules below the foot": [("points(y - self.set), points(y))", "points(y), points(y + self.set))")],
     "an empty path where there is no rule": [("d=\"%s\"/>\\n' % marks if marks else \"\"", "d=\"%s\"/>\\n' % marks")],
-    "rules are drawn first": [("</g>\\n' % (line.number, drawn.line(line, y), drawn.rules(line, y), ", "</g>\\n' % (line.number, drawn.rules(line, y), drawn.line(line, y), ")],
+    "rules are drawn first": [("parts = drawn.line(line, y), drawn.rules(line, y), ", "parts = drawn.rules(line, y), drawn.line(line, y), ")],
+    "a page has no way out": [("drawn.dashes(line, y), drawn.way(line, y)", "drawn.dashes(line, y)")],
+    "the way out is on its cause": [("self.beside(line), y + 600, escaped", "self.beside(line), y, escaped")],
     "dashes are letters": [("DASHES, GAP = \"\\u2013\\u2014\\u2015\", 40", "DASHES, GAP = \"\", 40")],
     "an em dash alone is drawn as a rule": [("DASHES, GAP = \"\\u2013\\u2014\\u2015\", 40", "DASHES, GAP = \"\\u2014\", 40")],
     "dashes touch": [("DASHES, GAP = \"\\u2013\\u2014\\u2015\", 40", "DASHES, GAP = \"\\u2013\\u2014\\u2015\", 0")],

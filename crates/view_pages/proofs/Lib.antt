@@ -1,7 +1,6 @@
 pub mod Texts
 pub mod Escapes
-pub mod NextEdge
-pub mod NextDash
+pub mod NextRule
 pub mod NextPage
 pub mod NextAlone
 pub mod Shares

@@ -23,13 +23,13 @@ pub from_text : (texts : List (List ℕ)) (n : ℕ) (d text : List ℕ) → n < 
 from_text texts n d text lt is = at_drop_more (λ xs. xs) texts n d lt ∙ ap (λ t. t ∷ drop (n + 1) texts) is
 
 -- one more page that is put
-pub next_put : (name : List ℕ) (n : ℕ) (texts : List (List ℕ)) (text : List ℕ) (first mid last : Shelf) → drop n texts ≡ text ∷ drop (n + 1) texts
-    → IsPut (page_name name (n + 1)) text first mid → ArePut name (n + 1 + 1) (drop (n + 1) texts) mid last → ArePut name (n + 1) (drop n texts) first last
-next_put name n texts text first mid last is put rest = subst (λ ts. ArePut name (n + 1) ts first last) (sym is) (mid, put, rest)
+pub next_put : (job : Job) (name : List ℕ) (n : ℕ) (texts : List (List ℕ)) (text : List ℕ) (first mid last : Shelf) → drop n texts ≡ text ∷ drop (n + 1) texts
+    → IsPut job (page_name name (n + 1)) text first mid → ArePut job name (n + 1 + 1) (drop (n + 1) texts) mid last → ArePut job name (n + 1) (drop n texts) first last
+next_put job name n texts text first mid last is put rest = subst (λ ts. ArePut job name (n + 1) ts first last) (sym is) (mid, put, rest)
 
 -- a page behind it that is not put
 pub next_unput : (job : Job) (name : List ℕ) (n : ℕ) (texts : List (List ℕ)) (text : List ℕ) (first mid last : Shelf) (fault : PreviewFault) → drop n texts ≡ text ∷ drop (n + 1) texts
-    → IsPut (page_name name (n + 1)) text first mid → AreUnput job name (n + 1 + 1) (drop (n + 1) texts) mid last fault → AreUnput job name (n + 1) (drop n texts) first last fault
+    → IsPut job (page_name name (n + 1)) text first mid → AreUnput job name (n + 1 + 1) (drop (n + 1) texts) mid last fault → AreUnput job name (n + 1) (drop n texts) first last fault
 next_unput job name n texts text first mid last fault is put rest = subst (λ ts. AreUnput job name (n + 1) ts first last fault) (sym is) (inr (mid, put, rest))
 
 -- the page itself

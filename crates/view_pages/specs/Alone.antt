@@ -7,9 +7,9 @@ use Rattle.view_galley.specs.Values.{GalleyValues}
 use Rattle.view_picture.specs.Picture.{looks_text, size_text}
 use Rattle.view_preview.specs.declared.job.Job.{Job}
 use Rattle.view_proof.specs.Proof.{head_words}
-use Rattle.view_pages.specs.Layouts.{layout_of, lines_on}
+use Rattle.view_pages.specs.Layouts.{layout_of}
 use Rattle.view_pages.specs.Names.{files_text, source_text}
-use Rattle.view_pages.specs.Pages.{body_text, columns_text, extent_text, head_text}
+use Rattle.view_pages.specs.Pages.{extent_text, page_body}
 use Rattle.view_pages.specs.Tags.{sheet_number}
 use Rattle.view_pages.specs.declared.layouts.Layout.{Layout}
 
@@ -20,7 +20,10 @@ looks_begin = codes "\">\n<style>"
 -- how its paper and its rules look, and the paper
 unfoldable pub paper_looks : List ℕ
 paper_looks =
-    codes ".paper{fill:#fbf9f2}.r{stroke:#fff;stroke-width:.3;fill:none}.e{fill:none}.d{stroke:#111;stroke-width:.6;fill:none}.d.f{stroke:#b00;fill:none}</style>\n<rect class=\"paper\" width=\"100%\" height=\"100%\"/>\n"
+    codes ".paper{fill:#fbf9f2}.r{stroke:#fff;stroke-width:.3;fill:none}.e{fill:none}"
+    ++ (codes ".d{stroke:#111;stroke-width:.6;fill:none}.d.f{stroke:#b00;fill:none}"
+    ++ (codes ".y{fill:#b00;font-family:sans-serif;font-size:6px}</style>"
+    ++ codes "\n<rect class=\"paper\" width=\"100%\" height=\"100%\"/>\n"))
 
 -- how many faults a copy has, where it has any
 unfoldable pub faulty_text : (count : ℕ) → List ℕ
@@ -42,9 +45,7 @@ sheet_alone layout number = size_text layout.width layout.height ++ (extent_text
 -- a page by its number from 0
 unfoldable pub page_alone : List Symbol → GalleyValues → Layout → (heading : List ℕ) → (number : ℕ) → List ℕ
 page_alone copy galley layout heading number =
-    sheet_alone layout number
-    ++ (head_text heading layout number
-    ++ (columns_text ++ body_text copy layout.paper galley (lines_on layout.lines number galley.lines)))
+    sheet_alone layout number ++ page_body copy galley layout heading number
 
 -- so many pages, from this one on
 abbrev pub alone_from : List Symbol → GalleyValues → Layout → (heading : List ℕ) → (number count : ℕ) → List (List ℕ)

@@ -27,7 +27,7 @@ page_height paper height = max (height * 100) (height_of paper 1)
 abbrev pub layout_on : Paper → GalleyValues → (height : ℕ) → Layout
 layout_on paper galley height = record {
   paper = paper;
-  width = page_width paper galley;
+  width = page_width paper galley + 5000;
   height = page_height paper height;
   lines = lines_a_page paper height;
   pages = div_ceil (length galley.lines) (lines_a_page paper height);

@@ -2,11 +2,11 @@ pub mod Tags
 pub mod Names
 pub mod Screen
 pub mod Layouts
-pub mod Edges
+pub mod Ways
 pub mod Lists
 pub mod Table
 pub mod Report
-pub mod Dashes
+pub mod Rules
 pub mod Pages
 pub mod Alone
 pub mod Document

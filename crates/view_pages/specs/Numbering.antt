@@ -54,10 +54,10 @@ page_name name number = numbered name number (ending_at name)
 abbrev pub IsSource : Job → List ℕ → Type 0
 IsSource job name = (name ≡ name_of job.source) ⊎ (name ≡ job.case.now) ⊎ (name ≡ job.wedge.now)
 
--- a picture is stored under a name where nothing stood but a picture
-abbrev pub IsPut : (name text : List ℕ) → Shelf → Shelf → Type 0
-IsPut name text before after =
-    GivesWay (destination name false) kinds.Picture before.kept × IsReplaced name text before.kept after.kept
+-- a picture is stored under a name that is none of what is drawn, where nothing stood but a picture
+abbrev pub IsPut : Job → (name text : List ℕ) → Shelf → Shelf → Type 0
+IsPut job name text before after = (IsSource job name → ⊥)
+    × GivesWay (destination name false) kinds.Picture before.kept × IsReplaced name text before.kept after.kept
 
 -- why it was not stored: its name is one of those of what is drawn; or memory ran out; or another file stands there, or
 -- the file failed
@@ -68,17 +68,18 @@ IsUnput job name before after fault =
     ⊎ ((why : OutputFault) × (fault ≡ of_output why) × IsNotPut (destination name false) kinds.Picture before after why)
 
 -- pages from one of this number on stand under their names, stored in their order
-abbrev pub ArePut : (name : List ℕ) → (number : ℕ) → List (List ℕ) → Shelf → Shelf → Type 0
-ArePut name number [] first last = last ≡ first
-ArePut name number (text ∷ texts) first last =
-    (next : Shelf) × IsPut (page_name name number) text first next × ArePut name (number + 1) texts next last
+abbrev pub ArePut : Job → (name : List ℕ) → (number : ℕ) → List (List ℕ) → Shelf → Shelf → Type 0
+ArePut job name number [] first last = last ≡ first
+ArePut job name number (text ∷ texts) first last =
+    (next : Shelf) × IsPut job (page_name name number) text first next
+    × ArePut job name (number + 1) texts next last
 
 -- one of them was not stored, and those before it were
 abbrev pub AreUnput : Job → (name : List ℕ) → (number : ℕ) → List (List ℕ) → Shelf → Shelf → PreviewFault → Type 0
 AreUnput job name number [] first last fault = ⊥
 AreUnput job name number (text ∷ texts) first last fault =
     IsUnput job (page_name name number) first last fault
-    ⊎ ((next : Shelf) × IsPut (page_name name number) text first next
+    ⊎ ((next : Shelf) × IsPut job (page_name name number) text first next
     × AreUnput job name (number + 1) texts next last fault)
 
 -- ---- what is drawn
@@ -109,7 +110,7 @@ GivesShort job shelf trial height = (matter : MatterValues) × Gives job shelf m
 -- Each page of a long galley stands under its name with its number; a short one's picture stands under the name itself.
 abbrev pub ArePaged : Job → Settings → (height : ℕ) → Destination → Shelf → Shelf → Type 0
 ArePaged job trial height to before after =
-    ((texts : List (List ℕ)) × GivesPages job before trial height texts × ArePut to.name 1 texts before after)
+    ((texts : List (List ℕ)) × GivesPages job before trial height texts × ArePut job to.name 1 texts before after)
     ⊎ (GivesShort job before trial height × IsPictured job trial to before after)
 
 -- why there is nothing to store: the job gives nothing; or memory ran out once it had given all

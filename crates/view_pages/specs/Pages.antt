@@ -9,9 +9,10 @@ use Rattle.view_picture.specs.Lines.{line_at, text_at}
 use Rattle.view_picture.specs.Paper.{edge, foot}
 use Rattle.view_picture.specs.Picture.{frame_height, frame_text, size_text}
 use Rattle.view_picture.specs.declared.paper.Paper.{Paper}
-use Rattle.view_pages.specs.Dashes.{rules_text}
 use Rattle.view_pages.specs.Layouts.{lines_on}
+use Rattle.view_pages.specs.Rules.{rules_text}
 use Rattle.view_pages.specs.Tags.{group_end, line_begin, sheet_end, sheet_height, sheet_number, sheet_paper}
+use Rattle.view_pages.specs.Ways.{way_if_any}
 use Rattle.view_pages.specs.declared.layouts.Layout.{Layout}
 
 -- how large a page is
@@ -45,11 +46,16 @@ columns_text =
     column_text (codes "n") 4000 (codes "line") ++ (column_text (codes "n") 8800 (codes "place")
     ++ column_text (codes "h") edge (codes "as it is set"))
 
+-- the rules of a line whose letters stand here, and its way out if it is at fault
+unfoldable pub line_marks : Terms → List Symbol → Paper → (y : ℕ) → LineValues → List ℕ
+line_marks terms copy paper y line =
+    rules_text terms copy paper y line ++ way_if_any terms copy paper y line line.faults
+
 -- a line that stands here, which can be linked to by its number in the galley
 unfoldable pub linked_line : Terms → List Symbol → Paper → (y : ℕ) → LineValues → List ℕ
 linked_line terms copy paper y line =
     line_begin ++ (decimal line.number ++ (codes "\">\n" ++ (line_at terms copy paper y line
-    ++ (rules_text terms copy paper y line ++ group_end))))
+    ++ (line_marks terms copy paper y line ++ group_end))))
 
 -- lines under one another, below so many others
 abbrev pub lines_below : Terms → List Symbol → Paper → (above : ℕ) → List LineValues → List ℕ
@@ -72,12 +78,16 @@ unfoldable pub body_text : List Symbol → Paper → GalleyValues → List LineV
 body_text copy paper galley lines =
     frame_of paper galley (length lines) ++ (lines_text galley.terms copy paper lines ++ sheet_end)
 
--- a page by its number from 0
+-- what stands on a page by its number from 0
+unfoldable pub page_body : List Symbol → GalleyValues → Layout → (heading : List ℕ) → (number : ℕ) → List ℕ
+page_body copy galley layout heading number =
+    head_text heading layout number
+    ++ (columns_text ++ body_text copy layout.paper galley (lines_on layout.lines number galley.lines))
+
+-- that page
 unfoldable pub page_text : List Symbol → GalleyValues → Layout → (heading : List ℕ) → (number : ℕ) → List ℕ
 page_text copy galley layout heading number =
-    sheet_text layout number
-    ++ (head_text heading layout number
-    ++ (columns_text ++ body_text copy layout.paper galley (lines_on layout.lines number galley.lines)))
+    sheet_text layout number ++ page_body copy galley layout heading number
 
 -- so many pages, from this one on
 abbrev pub pages_from : List Symbol → GalleyValues → Layout → (heading : List ℕ) → (number count : ℕ) → List ℕ

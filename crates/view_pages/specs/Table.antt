@@ -4,12 +4,12 @@ use Rattle.std.specs.Fmt.{decimal}
 use Rattle.desk_ops.specs.declared.op.Symbol.{Symbol}
 use Rattle.desk_job.specs.declared.JobFault.{JobFault}
 use Rattle.view_galley.specs.Values.{LineValues}
-use Rattle.view_proof.specs.Faults.{cause_and_limits, way_text}
+use Rattle.view_proof.specs.Faults.{cause_and_limits}
 use Rattle.view_proof.specs.Parts.{begin_of}
 use Rattle.view_proof.specs.declared.scale.Scale.{Scale}
 use Rattle.view_preview.specs.Proofing.{are_set}
-use Rattle.view_pages.specs.Names.{escaped_text}
 use Rattle.view_pages.specs.Tags.{cell_next, link_end, no_fault, row_begin, row_end, table_begin, table_end}
+use Rattle.view_pages.specs.Ways.{escaped_way}
 
 -- the number of a line, as a link to it
 unfoldable pub link_text : (number : ℕ) → List ℕ
@@ -22,7 +22,7 @@ line_cells line = link_text line.number ++ (decimal (begin_of line.words) ++ cel
 -- its fault, and the way out
 unfoldable pub cells_text : List Symbol → Scale → LineValues → JobFault → List ℕ
 cells_text copy scale line fault =
-    cause_and_limits scale line.wedge_sum fault ++ (cell_next ++ (escaped_text (way_text copy scale line fault) ++ row_end))
+    cause_and_limits scale line.wedge_sum fault ++ (cell_next ++ (escaped_way copy scale line fault ++ row_end))
 
 -- of a line, which has one fault or none
 abbrev pub row_if_any : List Symbol → Scale → LineValues → List JobFault → List ℕ

@@ -1,5 +1,5 @@
 -- The tags of a document.
-use Rattle.std.specs.Prelude.{ℕ, List, codes}
+use Rattle.std.specs.Prelude.{ℕ, List, ◌++◌, codes}
 
 -- what begins the title of a document
 unfoldable pub title_begin : List ℕ
@@ -63,7 +63,9 @@ no_fault = codes "<p>No line is at fault.</p>\n"
 
 -- what begins the lines at fault
 unfoldable pub table_begin : List ℕ
-table_begin = codes "<h2>Lines at fault</h2>\n<table>\n<thead><tr><th>line</th><th>place</th><th>cause</th><th>way out</th></tr></thead>\n<tbody>\n"
+table_begin =
+    codes "<h2>Lines at fault</h2>\n<table>\n<thead><tr><th>line</th><th>place</th><th>cause</th><th>"
+    ++ codes "way out</th></tr></thead>\n<tbody>\n"
 
 -- what ends them
 unfoldable pub table_end : List ℕ
@@ -125,10 +127,6 @@ sheet_end = codes "</svg>\n"
 unfoldable pub line_begin : List ℕ
 line_begin = codes "<g id=\"line-"
 
--- what begins the rules of a line
-unfoldable pub path_begin : List ℕ
-path_begin = codes "<path class=\"r\" d=\""
-
--- what ends them
+-- what ends the rules of a line
 unfoldable pub path_end : List ℕ
 path_end = codes "\"/>\n"

@@ -8,9 +8,9 @@ ghost use Rattle.view_pages.specs.Alone.{all_alone, alone_heading, faulty_text, 
 ghost use Rattle.view_pages.specs.Alone.{id_alone, sheet_alone};
 ghost use Rattle.view_pages.specs.Alone as alone;
 
-use crate::layouts::{Layout, lines_on};
+use crate::layouts::Layout;
 use crate::names::{put_files, put_source};
-use crate::pages::{put_body, put_columns, put_extent, put_head};
+use crate::pages::{put_extent, put_page_body};
 use crate::tags::sheet_number;
 use desk_ops::{CopyFault, Symbol};
 use std::alloc::{AllocError, Allocator};
@@ -33,7 +33,8 @@ fn paper_looks() -> &'static str
     ensures { result.now ≡ paper_looks }
 {
     ".paper{fill:#fbf9f2}.r{stroke:#fff;stroke-width:.3;fill:none}\
-    .e{fill:none}.d{stroke:#111;stroke-width:.6;fill:none}.d.f{stroke:#b00;fill:none}</style>\n\
+    .e{fill:none}.d{stroke:#111;stroke-width:.6;fill:none}.d.f{stroke:#b00;fill:none}\
+    .y{fill:#b00;font-family:sans-serif;font-size:6px}</style>\n\
     <rect class=\"paper\" width=\"100%\" height=\"100%\"/>\n"
 }
 
@@ -124,11 +125,8 @@ fn put_page_alone<'a, A: Allocator + Copy>(
     ensures { OnOk result
         (string_bytes out.new ≡ string_bytes out.old ++ page_alone copy.now galley.now layout heading.now number) }
 {
-    let lines = lines_on(galley.lines(), layout.lines, number);
     put_sheet_alone(out, layout, number)?;
-    put_head(out, heading, layout, number)?;
-    put_columns(out)?;
-    put_body(out, copy, layout.paper, galley, lines)
+    put_page_body(out, copy, galley, layout, heading, number)
 }
 
 /// A page by its number from 0.

@@ -37,7 +37,6 @@ fn put_galley_rule<'a, A: Allocator + Copy>(
 #[tactic(auto, unfolding(crate::specs::Document::galley_pages))]
 fn put_galley_pages<'a, A: Allocator + Copy>(
     out: &mut String<A>,
-    alloc: A,
     job: &Job<'_>,
     copy: &[Symbol],
     galley: &Galley<'a, A>,
@@ -50,7 +49,7 @@ fn put_galley_pages<'a, A: Allocator + Copy>(
         galley_pages job.now copy.now galley.now (layouts.layout_of galley.now height)) }
 {
     let layout = layout_of(galley, height);
-    let heading = heading_of(alloc, job, galley.values())?;
+    let heading = heading_of(*out.allocator(), job, galley.values())?;
     put_pages(out, copy, galley, layout, heading.as_str())?;
     out.push_str(document_end())
 }
@@ -73,8 +72,8 @@ pub fn document_of<'a, A: Allocator + Copy>(
     let mut out = String::new(alloc);
     put_begin(&mut out, job)?;
     put_galley_rule(&mut out, galley, height)?;
-    put_report(&mut out, alloc, job, copy, faults, galley)?;
-    put_galley_pages(&mut out, alloc, job, copy, galley, height)?;
+    put_report(&mut out, job, copy, faults, galley)?;
+    put_galley_pages(&mut out, job, copy, galley, height)?;
     Ok(out)
 }
 

@@ -32,10 +32,10 @@ fn drawn_of<A: Allocator + Copy>(
     }
 }
 
-/// Draws the galley of a version of a stored feed, or of a text, by a case and a wedge, as a document in HTML with pages
-/// of this height in points, and stores it under the name of a target; where there is no galley, a document that says
-/// why. The names of the feed or text, the case and the wedge stand in it. A line that can't be set is drawn with its
-/// fault, and no refusal. Settings that are tried count in place of the copy's, and are stored nowhere. No name is
+/// Draws the galley of a version of a stored feed, or of a text, by a case and a wedge, as a document in HTML with
+/// pages of this height in points, and stores it under the name of a target; where there is no galley, a document that
+/// says why. The names of the feed or text, the case and the wedge stand in it. A line that can't be set is drawn with
+/// its fault, and no refusal. Settings that are tried count in place of the copy's, and are stored nowhere. No name is
 /// taken: a feed is stored by a rename, so what is read is a whole feed. Where a file that is no document stands under
 /// the target, which is not forced, the fault is `Taken`. A target that is forced, and is the feed, the text, the case
 /// or the wedge, is replaced as any other. After an `Err` the target has its old bytes.

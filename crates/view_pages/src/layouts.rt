@@ -64,7 +64,7 @@ fn layout_on<'a, A: Allocator>(paper: Paper, galley: &Galley<'a, A>, height: u16
     let lines = lines_a_page(paper, height);
     Layout {
         paper,
-        width: page_width(paper, galley),
+        width: page_width(paper, galley) + 5_000,
         height: page_height(paper, height),
         lines,
         pages: galley.lines().len().div_ceil(lines),

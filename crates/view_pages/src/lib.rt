@@ -11,10 +11,8 @@
 #![tactic(auto)]
 
 mod alone;
-mod dashes;
 mod document;
 mod documenting;
-mod edges;
 pub mod laws;
 mod layouts;
 mod lists;
@@ -22,9 +20,11 @@ mod names;
 mod numbering;
 mod pages;
 mod report;
+mod rules;
 mod screen;
 mod table;
 mod tags;
+mod ways;
 
 pub use documenting::document_job;
 pub use numbering::pages_job;

@@ -106,7 +106,7 @@ fn put_picture<F: Files, A: Allocator + Copy>(
     name: &str,
     text: &str,
 ) -> Result<(), PreviewFault>
-    ensures ok { OnOk result (IsPut name.now text.now (F.shelf files.old) (F.shelf files.new)) }
+    ensures ok { OnOk result (IsPut job.now name.now text.now (F.shelf files.old) (F.shelf files.new)) }
     ensures counted { OnOk result ((F.shelf files.new).failures ≡ (F.shelf files.old).failures) }
     ensures err { IfErr result (IsUnput job.now name.now (F.shelf files.old) (F.shelf files.new)) }
     ensures held { HoldsOn (F.shelf files.old).held (F.shelf files.new).held }
@@ -129,7 +129,7 @@ fn put_page<F: Files, A: Allocator + Copy>(
     text: &str,
 ) -> Result<(), PreviewFault>
     ensures ok { OnOk result
-        (IsPut (page_name name.now number) text.now (F.shelf files.old) (F.shelf files.new)) }
+        (IsPut job.now (page_name name.now number) text.now (F.shelf files.old) (F.shelf files.new)) }
     ensures counted { OnOk result ((F.shelf files.new).failures ≡ (F.shelf files.old).failures) }
     ensures err { IfErr result
         (IsUnput job.now (page_name name.now number) (F.shelf files.old) (F.shelf files.new)) }
@@ -148,7 +148,7 @@ fn put_pages<F: Files, A: Allocator + Copy>(
     texts: &[String<A>],
 ) -> Result<(), PreviewFault>
     ensures ok { OnOk result
-        (ArePut name.now 1 (map string_bytes texts.now) (F.shelf files.old) (F.shelf files.new)) }
+        (ArePut job.now name.now 1 (map string_bytes texts.now) (F.shelf files.old) (F.shelf files.new)) }
     ensures counted { OnOk result ((F.shelf files.new).failures ≡ (F.shelf files.old).failures) }
     ensures err { IfErr result
         (AreUnput job.now name.now 1 (map string_bytes texts.now) (F.shelf files.old) (F.shelf files.new)) }

@@ -4,12 +4,15 @@ ghost use Rattle.std.specs.Prelude.{◌≡◌, ◌+◌, ◌*◌, ◌++◌, ◌�
 ghost use Rattle.std.specs.Int.{div_ceil};
 ghost use Rattle.desk_lines.specs.Words.{most_symbols};
 ghost use Rattle.view_galley.specs.Galley.{Stands};
+ghost use Rattle.view_proof.specs.Lines.{HasWords};
 ghost use Rattle.view_pages.specs.Pages.{among_text, body_text, column_text, columns_text, extent_text, frame_of, head_text};
-ghost use Rattle.view_pages.specs.Pages.{id_text, lines_below, lines_text, linked_line, page_text, pages_text, sheet_text};
+ghost use Rattle.view_pages.specs.Pages.{id_text, line_marks, lines_below, lines_text, linked_line, page_body};
+ghost use Rattle.view_pages.specs.Pages.{page_text, pages_text, sheet_text};
 
-use crate::dashes::put_rules;
 use crate::layouts::{Layout, lines_on};
+use crate::rules::put_rules;
 use crate::tags::{group_end, line_begin, sheet_end, sheet_height, sheet_number, sheet_paper};
+use crate::ways::put_way_below;
 use desk_job::terms::Terms;
 use desk_ops::Symbol;
 use std::alloc::{AllocError, Allocator};
@@ -72,7 +75,7 @@ fn put_among<A: Allocator + Copy>(
 
 /// Writes the head of a page: the heading, and its number among all.
 #[tactic(auto, unfolding(crate::specs::Pages::head_text))]
-pub fn put_head<A: Allocator + Copy>(
+fn put_head<A: Allocator + Copy>(
     out: &mut String<A>,
     heading: &str,
     layout: Layout,
@@ -102,12 +105,32 @@ fn put_column<A: Allocator + Copy>(
 
 /// Writes the words above the columns.
 #[tactic(auto, unfolding(crate::specs::Pages::columns_text))]
-pub fn put_columns<A: Allocator + Copy>(out: &mut String<A>) -> Result<(), AllocError>
+fn put_columns<A: Allocator + Copy>(out: &mut String<A>) -> Result<(), AllocError>
     ensures { OnOk result (string_bytes out.new ≡ string_bytes out.old ++ columns_text) }
 {
     put_column(out, "n", 4_000, "line")?;
     put_column(out, "n", 8_800, "place")?;
     put_column(out, "h", EDGE, "as it is set")
+}
+
+/// Writes the rules of a line whose letters stand here, and its way out if it is at fault.
+#[tactic(auto, unfolding(crate::specs::Pages::line_marks))]
+fn put_line_marks<A: Allocator + Copy>(
+    out: &mut String<A>,
+    terms: &Terms,
+    copy: &[Symbol],
+    paper: Paper,
+    y: u128,
+    line: &Line<A>,
+) -> Result<(), AllocError>
+    requires copy { length copy.now ≤ most_symbols }
+    requires y { y ≤ 2 ^ 101 }
+    requires line { HasWords copy.now line.now }
+    ensures { OnOk result
+        (string_bytes out.new ≡ string_bytes out.old ++ line_marks terms.now copy.now paper y line.now) }
+{
+    put_rules(out, terms, copy, paper, y, line)?;
+    put_way_below(out, terms, copy, paper, y, line)
 }
 
 /// Writes a line that stands here, which can be linked to by its number in the galley.
@@ -121,6 +144,7 @@ fn put_linked_line<A: Allocator + Copy>(
     line: &Line<A>,
 ) -> Result<(), AllocError>
     requires copy { length copy.now ≤ most_symbols }
+    requires y { y ≤ 2 ^ 101 }
     requires line { Stands copy.now terms.now.case line.now }
     ensures { OnOk result
         (string_bytes out.new ≡ string_bytes out.old ++ linked_line terms.now copy.now paper y line.now) }
@@ -129,7 +153,7 @@ fn put_linked_line<A: Allocator + Copy>(
     put_number(out, line.number() as u128)?;
     out.push_str("\">\n")?;
     put_line_at(out, terms, copy, paper, y, line)?;
-    put_rules(out, terms, copy, paper, y, line)?;
+    put_line_marks(out, terms, copy, paper, y, line)?;
     out.push_str(group_end())
 }
 
@@ -193,7 +217,7 @@ fn put_frame_of<'a, A: Allocator + Copy>(
 
 /// Writes these lines of a galley in their frame.
 #[tactic(auto, unfolding(crate::specs::Pages::body_text))]
-pub fn put_body<'a, A: Allocator + Copy>(
+fn put_body<'a, A: Allocator + Copy>(
     out: &mut String<A>,
     copy: &[Symbol],
     paper: Paper,
@@ -209,6 +233,29 @@ pub fn put_body<'a, A: Allocator + Copy>(
     put_frame_of(out, paper, galley, lines.len())?;
     put_lines(out, galley.terms(), copy, paper, lines)?;
     out.push_str(sheet_end())
+}
+
+/// Writes what stands on a page by its number from 0, whose beginning is written.
+#[tactic(auto, unfolding(crate::specs::Pages::page_body))]
+pub fn put_page_body<'a, A: Allocator + Copy>(
+    out: &mut String<A>,
+    copy: &[Symbol],
+    galley: &Galley<'a, A>,
+    layout: Layout,
+    heading: &str,
+    number: usize,
+) -> Result<(), AllocError>
+    requires copy { length copy.now ≤ most_symbols }
+    requires top { layout.paper.top ≤ 2 ^ 100 }
+    requires lines { All (Stands copy.now galley.now.terms.case) galley.now.lines }
+    requires number { number * layout.lines ≤ length galley.now.lines }
+    ensures { OnOk result
+        (string_bytes out.new ≡ string_bytes out.old ++ page_body copy.now galley.now layout heading.now number) }
+{
+    let lines = lines_on(galley.lines(), layout.lines, number);
+    put_head(out, heading, layout, number)?;
+    put_columns(out)?;
+    put_body(out, copy, layout.paper, galley, lines)
 }
 
 /// Writes a page by its number from 0.
@@ -228,11 +275,8 @@ fn put_page<'a, A: Allocator + Copy>(
     ensures { OnOk result
         (string_bytes out.new ≡ string_bytes out.old ++ page_text copy.now galley.now layout heading.now number) }
 {
-    let lines = lines_on(galley.lines(), layout.lines, number);
     put_sheet(out, layout, number)?;
-    put_head(out, heading, layout, number)?;
-    put_columns(out)?;
-    put_body(out, copy, layout.paper, galley, lines)
+    put_page_body(out, copy, galley, layout, heading, number)
 }
 
 /// Writes all pages of a galley that is laid out.

@@ -94,7 +94,6 @@ fn put_summary<'a, A: Allocator + Copy>(
 #[tactic(auto, unfolding(crate::specs::Report::troubles_text))]
 fn put_troubles<'a, A: Allocator + Copy>(
     out: &mut String<A>,
-    alloc: A,
     copy: &[Symbol],
     faults: &[CopyFault],
     galley: &Galley<'a, A>,
@@ -105,14 +104,13 @@ fn put_troubles<'a, A: Allocator + Copy>(
 {
     put_faults_list(out, faults)?;
     put_sorts_list(out, copy, galley.lacking())?;
-    put_table(out, alloc, copy, scale_of(galley), galley.lines())
+    put_table(out, copy, scale_of(galley), galley.lines())
 }
 
 /// Writes the first page.
 #[tactic(auto, unfolding(crate::specs::Report::report_text))]
 pub fn put_report<'a, A: Allocator + Copy>(
     out: &mut String<A>,
-    alloc: A,
     job: &Job<'_>,
     copy: &[Symbol],
     faults: &[CopyFault],
@@ -124,7 +122,7 @@ pub fn put_report<'a, A: Allocator + Copy>(
 {
     put_opening(out, job)?;
     put_summary(out, job, galley)?;
-    put_troubles(out, alloc, copy, faults, galley)?;
+    put_troubles(out, copy, faults, galley)?;
     out.push_str(main_end())
 }
 

@@ -1,19 +1,18 @@
 //! The lines at fault as a table: number and place, cause, and way out.
 
-ghost use Rattle.std.specs.Prelude.{◌≡◌, ◌++◌, All, IfOk, OnOk, string_bytes};
-ghost use Rattle.view_proof.specs.Faults.{way_text};
+ghost use Rattle.std.specs.Prelude.{◌≡◌, ◌++◌, All, OnOk, string_bytes};
 ghost use Rattle.view_proof.specs.Lines.{HasWords};
 ghost use Rattle.view_preview.specs.Proofing.{are_set};
 ghost use Rattle.view_pages.specs.Table.{cells_text, faulty_table, line_cells, link_text, row_if_any};
 ghost use Rattle.view_pages.specs.Table.{rows_text, table_text};
 
-use crate::names::put_escaped_text;
 use crate::tags::{cell_next, link_end, no_fault, row_begin, row_end, table_begin, table_end};
+use crate::ways::put_escaped_way;
 use desk_job::JobFault;
 use desk_ops::Symbol;
 use std::alloc::{AllocError, Allocator};
 use view_galley::{Line, put_number};
-use view_proof::{Scale, begin_of, put_cause, put_way};
+use view_proof::{Scale, begin_of, put_cause};
 
 /// Writes the number of a line, as a link to it.
 #[tactic(auto, unfolding(crate::specs::Table::link_text))]
@@ -40,27 +39,10 @@ fn put_line_cells<A: Allocator + Copy>(
     out.push_str(cell_next())
 }
 
-/// The way out of a line's fault.
-fn way_of<A: Allocator + Copy>(
-    alloc: A,
-    copy: &[Symbol],
-    scale: Scale,
-    line: &Line<A>,
-    fault: JobFault,
-) -> Result<String<A>, AllocError>
-    requires { HasWords copy.now line.now }
-    ensures { IfOk result (λ s. string_bytes s ≡ way_text copy.now scale line.now fault) }
-{
-    let mut out = String::new(alloc);
-    put_way(&mut out, copy, scale, line, fault)?;
-    Ok(out)
-}
-
-/// Writes a line's fault and the way out, which is made in the memory given.
+/// Writes a line's fault and the way out.
 #[tactic(auto, unfolding(crate::specs::Table::cells_text))]
 fn put_cells<A: Allocator + Copy>(
     out: &mut String<A>,
-    alloc: A,
     copy: &[Symbol],
     scale: Scale,
     line: &Line<A>,
@@ -69,17 +51,15 @@ fn put_cells<A: Allocator + Copy>(
     requires { HasWords copy.now line.now }
     ensures { OnOk result (string_bytes out.new ≡ string_bytes out.old ++ cells_text copy.now scale line.now fault) }
 {
-    let way = way_of(alloc, copy, scale, line, fault)?;
     put_cause(out, scale, line.wedge_sum(), fault)?;
     out.push_str(cell_next())?;
-    put_escaped_text(out, way.as_str())?;
+    put_escaped_way(out, copy, scale, line, fault)?;
     out.push_str(row_end())
 }
 
 /// Writes the row of a line, if it has a fault.
 fn put_row<A: Allocator + Copy>(
     out: &mut String<A>,
-    alloc: A,
     copy: &[Symbol],
     scale: Scale,
     line: &Line<A>,
@@ -92,12 +72,11 @@ fn put_row<A: Allocator + Copy>(
         return Ok(());
     };
     put_line_cells(out, line)?;
-    put_cells(out, alloc, copy, scale, line, fault)
+    put_cells(out, copy, scale, line, fault)
 }
 
 fn put_rows<A: Allocator + Copy>(
     out: &mut String<A>,
-    alloc: A,
     copy: &[Symbol],
     scale: Scale,
     lines: &[Line<A>],
@@ -106,7 +85,7 @@ fn put_rows<A: Allocator + Copy>(
     ensures { OnOk result (string_bytes out.new ≡ string_bytes out.old ++ rows_text copy.now scale lines.now) }
 {
     for line in lines {
-        put_row(out, alloc, copy, scale, line)?;
+        put_row(out, copy, scale, line)?;
     }
     Ok(())
 }
@@ -127,7 +106,6 @@ fn are_set<A: Allocator>(lines: &[Line<A>]) -> bool
 #[tactic(auto, unfolding(crate::specs::Table::faulty_table))]
 fn put_faulty<A: Allocator + Copy>(
     out: &mut String<A>,
-    alloc: A,
     copy: &[Symbol],
     scale: Scale,
     lines: &[Line<A>],
@@ -136,7 +114,7 @@ fn put_faulty<A: Allocator + Copy>(
     ensures { OnOk result (string_bytes out.new ≡ string_bytes out.old ++ faulty_table copy.now scale lines.now) }
 {
     out.push_str(table_begin())?;
-    put_rows(out, alloc, copy, scale, lines)?;
+    put_rows(out, copy, scale, lines)?;
     out.push_str(table_end())
 }
 
@@ -144,7 +122,6 @@ fn put_faulty<A: Allocator + Copy>(
 #[tactic(auto, unfolding(crate::specs::Table::table_text))]
 pub fn put_table<A: Allocator + Copy>(
     out: &mut String<A>,
-    alloc: A,
     copy: &[Symbol],
     scale: Scale,
     lines: &[Line<A>],
@@ -155,6 +132,6 @@ pub fn put_table<A: Allocator + Copy>(
     if are_set(lines) {
         out.push_str(no_fault())
     } else {
-        put_faulty(out, alloc, copy, scale, lines)
+        put_faulty(out, copy, scale, lines)
     }
 }

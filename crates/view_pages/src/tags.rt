@@ -4,7 +4,7 @@ ghost use Rattle.std.specs.Prelude.{◌≡◌};
 ghost use Rattle.view_pages.specs.Tags.{case_in, cause_begin, cause_end, cell_next, document_end, faults_begin};
 ghost use Rattle.view_pages.specs.Tags.{group_end, item_end, line_begin, link_end, list_end, main_begin};
 ghost use Rattle.view_pages.specs.Tags.{main_end, main_next, names_end, no_fault, page_size, page_size_alone};
-ghost use Rattle.view_pages.specs.Tags.{page_size_end, path_begin, path_end, row_begin, row_end, sheet_end};
+ghost use Rattle.view_pages.specs.Tags.{page_size_end, path_end, row_begin, row_end, sheet_end};
 ghost use Rattle.view_pages.specs.Tags.{sheet_height, sheet_number, sheet_paper, sorts_begin, table_begin};
 ghost use Rattle.view_pages.specs.Tags.{table_end, title_begin, title_end, wedge_in};
 
@@ -257,15 +257,7 @@ pub fn line_begin() -> &'static str
     "<g id=\"line-"
 }
 
-/// What begins the rules of a line.
-#[tactic(auto, unfolding(crate::specs::Tags::path_begin))]
-pub fn path_begin() -> &'static str
-    ensures { result.now ≡ path_begin }
-{
-    "<path class=\"r\" d=\""
-}
-
-/// What ends them.
+/// What ends the rules of a line.
 #[tactic(auto, unfolding(crate::specs::Tags::path_end))]
 pub fn path_end() -> &'static str
     ensures { result.now ≡ path_end }

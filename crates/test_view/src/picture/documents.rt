@@ -35,7 +35,7 @@ const LOOSE: &str = "\
 </tbody>\n\
 </table>\n\
 </main>\n\
-<svg xmlns=\"http://www.w3.org/2000/svg\" xml:space=\"preserve\" viewBox=\"0 0 490.00 200.00\" width=\"490.00pt\" height=\"200.00pt\" id=\"page-1\">\n\
+<svg xmlns=\"http://www.w3.org/2000/svg\" xml:space=\"preserve\" viewBox=\"0 0 540.00 200.00\" width=\"540.00pt\" height=\"200.00pt\" id=\"page-1\">\n\
 <rect class=\"paper\" width=\"100%\" height=\"100%\"/>\n\
 <text class=\"h\" x=\"10.00\" y=\"20.00\">loose.feed, case c, wedge w, measure 120 points, tight 38, loose 60, page 1 of 1</text>\n\
 <text class=\"n\" x=\"40.00\" y=\"32.00\">line</text>\n\
@@ -49,6 +49,7 @@ const LOOSE: &str = "\
 <text class=\"w f\" y=\"60.00\"><tspan x=\"100.00 106.66 113.33 120.00\">nnn </tspan><tspan x=\"124.98 131.65 138.32 144.98\">nnn </tspan><tspan x=\"149.97 156.64 163.31 169.97\">nnn </tspan><tspan x=\"174.96 181.63 188.30 194.96\">nnn </tspan><tspan x=\"199.95 206.62 213.29 219.95\">nnn </tspan></text>\n\
 <text class=\"c\" x=\"226.00\" y=\"60.00\">too loose (wedge sum 99, limit 60)</text>\n\
 <path class=\"r\" d=\"M106.66 48.00V60.00M113.33 48.00V60.00M131.65 48.00V60.00M138.32 48.00V60.00M156.64 48.00V60.00M163.31 48.00V60.00M181.63 48.00V60.00M188.30 48.00V60.00M206.62 48.00V60.00M213.29 48.00V60.00\"/>\n\
+<text class=\"y\" x=\"226.00\" y=\"66.00\">4 spaces; the next word, 'nnn', is 14.0 points too wide; 6.0 points are free for a part of it</text>\n\
 </g>\n\
 <g id=\"line-2\">\n\
 <text class=\"n\" x=\"40.00\" y=\"76.00\">2</text>\n\
@@ -117,7 +118,7 @@ const SECOND: &str = "\
 
 /// What stands before that on a page in a document, from its size on.
 const SECOND_OF_DOCUMENT: &str = "<svg xmlns=\"http://www.w3.org/2000/svg\" xml:space=\"preserve\" \
-viewBox=\"0 0 490.00 200.00\" width=\"490.00pt\" height=\"200.00pt\" id=\"page-2\">\n\
+viewBox=\"0 0 540.00 200.00\" width=\"540.00pt\" height=\"200.00pt\" id=\"page-2\">\n\
 <rect class=\"paper\" width=\"100%\" height=\"100%\"/>\n\
 <text class=\"h\" x=\"10.00\" y=\"20.00\">long.feed, case c, wedge w, measure 120 points, tight 38, loose 150, page 2 of 2</text>\n\
 <text class=\"n\" x=\"40.00\" y=\"32.00\">line</text>\n\

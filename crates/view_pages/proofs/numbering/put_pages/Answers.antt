@@ -11,7 +11,7 @@ loop-before-preserved g c =
     get_or-map string_bytes c.args.texts.now n c.index-texts-before.result [] c.loop-before-test.true ∙ ap string_bytes (sym c.index-texts-before.is) ∙ sym c.as_str.ensures.value in
     let here = from_text texts n [] c.as_str.result.now (subst (λ m. n < m) (sym (length-map c.args.texts.now string_bytes)) c.loop-before-test.true) is in
     let old = c.loop-before.invariant in (
-      λ last rest. old.0 last (next_put c.args.name.now n texts c.as_str.result.now _ _ last here c.in_default.ensures.ok rest),
+      λ last rest. old.0 last (next_put c.args.job.now c.args.name.now n texts c.as_str.result.now _ _ last here c.in_default.ensures.ok rest),
       (
         λ last fault rest. old.1.0 last fault (next_unput c.args.job.now c.args.name.now n texts c.as_str.result.now _ _ last fault here c.in_default.ensures.ok rest),
         (c.in_default.ensures.counted ∙ old.1.1.0, holds_twice _ _ _ old.1.1.1 c.put_page-put.ensures.held),
