@@ -329,7 +329,7 @@ def punch(files, *names, force=False, faulty=False):
     for feed in feeds:
         held = held_in(files, feed)
         metal = metal or metal_in(files, case, wedge)
-        rows += rows_of(held, case, wedge, metal, faulty)
+        rows += rows_of(held, feed, case, wedge, metal, faulty)
     ribbon = oracle.ribbon_bytes(rows)
     if len(ribbon) > oracle.MAX_FILE:
         raise Stops("copydesk: too long\n..")
@@ -337,15 +337,19 @@ def punch(files, *names, force=False, faulty=False):
     return ""
 
 
-def rows_of(held, case, wedge, metal, faulty):
+def rows_of(held, feed, case, wedge, metal, faulty):
     """The rows of a feed's job, the head row before those of its lines."""
-    meaning = oracle.Meaning(held)
+    meaning, shown = oracle.Meaning(held), reported.plain(feed)
     if meaning.faults and not faulty:
-        raise Stops("copydesk: copy faults\n", faults_of(held))
+        raise Stops("copydesk: copy faults\n%s: its copy has faults\n" % shown, faults_of(held))
     faults, images = oracle.job(meaning.copy, meaning.settings, *metal)
     if faults:
         other = reported_galley.other_number(meaning.settings, *metal)
-        why = "{0}: it is {1} {3}, and the setting {1} is {2}\n".format({"case": case, "wedge": wedge}[other[0]], *other) if other else ""
+        if other:
+            of = reported.plain({"case": case, "wedge": wedge}[other[0]])
+            why = "{0}: it is {1} {3}, and {4} has the setting {1} {2}\n".format(of, *other, shown)
+        else:
+            why = shown + ": its job has faults\n"
         raise Stops("copydesk: no ribbon\n" + why, reported_galley.no_ribbon(faults, meaning.settings))
     return images
 

@@ -159,7 +159,8 @@ expect 1 "" proof c.feed "${metal[@]}" --set measure=150 --set loose=200 --set w
 grep -q ">no galley: the settings tight and case have no value<" none.svg
 expect 1 "" proof c.feed "${metal[@]}" --set measure=150 --set tight=40 --set loose=200 --set wedge=5
 [ "$(cat written)" = "no galley: the setting case has no value" ]
-expect 1 "copydesk: no ribbon" punch c.feed "${metal[@]}" -o c.rib
+expect 1 "copydesk: no ribbon
+c.feed: its job has faults" punch c.feed "${metal[@]}" -o c.rib
 [ "$(cat written)" = "no ribbon: missing measure, missing tight, missing loose, missing case, missing wedge" ]
 [ ! -e c.rib ]
 rm none.svg
@@ -186,14 +187,15 @@ echo 'ribbon 1 case12.toml wedge5.toml' | "$program" desk c.feed --site 1 > writ
 cmp c.feed before.feed
 echo 'set 1 loose 50' | "$program" desk c.feed --site 1 > written
 cp c.rib before.rib
-expect 1 "copydesk: no ribbon" punch c.feed "${metal[@]}" --output c.rib
+expect 1 "copydesk: no ribbon
+c.feed: its job has faults" punch c.feed "${metal[@]}" --output c.rib
 cmp c.rib before.rib
 for number in "case 7 case12.toml 12" "wedge 9 wedge5.toml 5"; do
   read -r name set file of <<< "$number"
   cp before.feed $name.feed
   echo "set 1 $name $set" | "$program" desk $name.feed --site 1 > written
   expect 1 "copydesk: no ribbon
-$file: it is $name $of, and the setting $name is $set" punch $name.feed "${metal[@]}" -o c.rib
+$file: it is $name $of, and $name.feed has the setting $name $set" punch $name.feed "${metal[@]}" -o c.rib
   [ "$(cat written)" = "no ribbon: other $name" ]
   expect 1 "" proof $name.feed "${metal[@]}"
   [ "$(cat written)" = "no galley: the setting $name is $set, and the $name has the number $of" ]
@@ -405,7 +407,8 @@ for to in made.rib none.rib ch.feed; do
   "$program" punch faulty.feed "${metal[@]}" -o $to > written 2> faults || got=$?
   [ "$got" = 1 ]
   [ "$(cat written)" = "faults waiting 99.9" ]
-  [ "$(cat faults)" = "copydesk: copy faults" ]
+  [ "$(cat faults)" = "copydesk: copy faults
+faulty.feed: its copy has faults" ]
 done
 [ ! -e none.rib ]
 cmp made.rib c.rib
@@ -415,9 +418,11 @@ cmp none.rib c.rib
 put '4d464431 01 0000000000000001 0001 0000000000000000 0000 00 00000061
   01 0000000000000002 0001 0000000000000001 0001 00 00000062 01 0000000000000002 0001 0000000000000001 0001 00 00000063
   01 0000000000000003 0002 0000000000000002 0001 00 00000064' > forked.feed
-expect 1 "copydesk: copy faults" punch forked.feed "${metal[@]}" -o none.rib
+expect 1 "copydesk: copy faults
+forked.feed: its copy has faults" punch forked.feed "${metal[@]}" -o none.rib
 [ "$(cat written)" = "faults forked 2.1, void 3.2" ]
-expect 1 "copydesk: no ribbon" punch forked.feed "${metal[@]}" -o none.rib --faulty
+expect 1 "copydesk: no ribbon
+forked.feed: its job has faults" punch forked.feed "${metal[@]}" -o none.rib --faulty
 [ "$(cat written)" = "no ribbon: missing measure, missing tight, missing loose, missing case, missing wedge" ]
 expect 1 "copydesk: input refused
 wedge5.toml: a key of a case is missing" punch forked.feed --case wedge5.toml --wedge wedge5.toml -o none.rib
@@ -976,7 +981,8 @@ printf 'set 3 tight 40\nset 3 case 12\nset 3 wedge 5\n' | "$program" desk a.feed
 grep -q 'measure 150 points, tight 40, loose 150' written
 "$program" proof a.feed --set measure=72 --set tight=50 > written || true
 grep -q 'measure 72 points, tight 50, loose 150' written
-expect 1 "copydesk: no ribbon" punch b.feed -o b.rib
+expect 1 "copydesk: no ribbon
+b.feed: its job has faults" punch b.feed -o b.rib
 printf 'set 3 measure 150\nset 3 loose 150\n' | "$program" desk a.feed > written
 expect 0 "" punch a.feed -o a.rib
 expect 0 "" read a.rib

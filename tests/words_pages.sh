@@ -253,12 +253,14 @@ cp letter.feed loose.feed
 printf 'set 1 loose 60\n' | "$program" desk loose.feed --site 1 > written
 cp letter.feed case.feed
 printf 'set 1 case 7\n' | "$program" desk case.feed --site 1 > written
-expect 1 "copydesk: no ribbon" punch letter.feed loose.feed faulty.feed "${metal[@]}" -o many.rib
+expect 1 "copydesk: no ribbon
+loose.feed: its job has faults" punch letter.feed loose.feed faulty.feed "${metal[@]}" -o many.rib
 [ "$(cat written)" = "no ribbon: too loose 1, too loose 2" ]
-expect 1 "copydesk: copy faults" punch letter.feed faulty.feed loose.feed "${metal[@]}" -o many.rib
+expect 1 "copydesk: copy faults
+faulty.feed: its copy has faults" punch letter.feed faulty.feed loose.feed "${metal[@]}" -o many.rib
 [ "$(cat written)" = "faults waiting 99.9" ]
 expect 1 "copydesk: no ribbon
-case12.toml: it is case 12, and the setting case is 7" punch letter.feed faulty.feed case.feed "${metal[@]}" -o many.rib --faulty
+case12.toml: it is case 12, and case.feed has the setting case 7" punch letter.feed faulty.feed case.feed "${metal[@]}" -o many.rib --faulty
 [ "$(cat written)" = "no ribbon: other case" ]
 for names in "letter.feed absent.feed loose.feed" "absent.feed loose.feed"; do
   # shellcheck disable=SC2086

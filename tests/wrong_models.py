@@ -310,7 +310,10 @@ FILES = {
     "what waits stops no punch": [("    if meaning.faults and not faulty:", "    if any(kind != \"waiting\" for kind, _ in meaning.faults) and not faulty:")],
     "copy faults come after those of the job": [("    if meaning.faults and not faulty:", "    if meaning.faults and not faulty and not oracle.job(meaning.copy, meaning.settings, *metal)[0]:")],
     "a faulty copy is punched, faulty job or not": [("    faults, images = oracle.job(meaning.copy, meaning.settings, *metal)\n    if faults:", "    faults, images = oracle.job(meaning.copy, meaning.settings, *metal)\n    images = images or []\n    if faults and not faulty:")],
-    "copy faults are not written": [("raise Stops(\"copydesk: copy faults\\n\", faults_of(held))", "raise Stops(\"copydesk: copy faults\\n\")")],
+    "copy faults are not written": [("its copy has faults\\n\" % shown, faults_of(held))", "its copy has faults\\n\" % shown)")],
+    "the feed of copy faults is not named": [("copy faults\\n%s: its copy has faults\\n\" % shown", "copy faults\\n\"")],
+    "the feed of a faulty job is not named": [("            why = shown + \": its job has faults\\n\"", "            why = \"\"")],
+    "a setting is told of no feed": [("and {4} has the setting {1} {2}", "and the setting {1} is {2}")],
     # feeds as they were
     "the counter itself is left out": [("until is None or op[1][0] <= until", "until is None or op[1][0] < until")],
     "the operations from a counter on": [("until is None or op[1][0] <= until", "until is None or op[1][0] >= until")],

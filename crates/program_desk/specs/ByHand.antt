@@ -11,6 +11,8 @@ use Rattle.feed_edit.specs.Exporting.{IsUnexported}
 use Rattle.feed_edit.specs.Importing.{IsUnimported}
 use Rattle.feed_edit.specs.Merging.{IsMerged, IsUnmerged}
 use Rattle.feed_edit.specs.declared.exporting.Version.{Version}
+use Rattle.feed_edit.specs.declared.importing.ImportMode.{ImportMode}
+use Rattle.feed_edit.specs.declared.room.Room.{Room}
 use Rattle.feed_edit.specs.declared.fault.ExportFault.{ExportFault}
 use Rattle.feed_edit.specs.declared.fault.ImportFault.{ImportFault}
 use Rattle.feed_edit.specs.declared.fault.MergeFault.{MergeFault}
@@ -64,11 +66,11 @@ IsNotExported version first last before after whole quiet said = Stays first las
     × IsUnexported version first last before after fault × Reports (export_cause version.feed fault) whole quiet said
 
 -- a copy was not made a text
-abbrev pub IsNotImported : Bor Text → ℕ → Bool → Bool → Bool → Shelf → Shelf → Option (List ℕ) → Option (List ℕ)
-    → Option (List ℕ) → Bool → Option (List ℕ) → Option (List ℕ) → Type 0
-IsNotImported feed site older plain all first last input before after whole quiet said =
-    (fault : ImportFault) × IsUnimported feed.now site older plain all first last input before after fault
-    × TellsOf true (import_cause feed site fault) whole quiet said
+abbrev pub IsNotImported : Room → ImportMode → Shelf → Shelf → Option (List ℕ) → Option (List ℕ) → Option (List ℕ)
+    → Bool → Option (List ℕ) → Option (List ℕ) → Type 0
+IsNotImported room mode first last input before after whole quiet said =
+    (fault : ImportFault) × IsUnimported room mode first last input before after fault
+    × TellsOf true (import_cause room.feed room.site fault) whole quiet said
 
 -- no new feed was made of a stored one
 abbrev pub IsNotMadeAnew : Bor Text → Bor Text → Shelf → Shelf → Option (List ℕ) → Option (List ℕ)

@@ -227,10 +227,10 @@ unstored_cause source target refusals.Device = causes.File target
 unstored_cause source target refusals.Large = causes.File target
 unstored_cause source target refusals.NoMemory = causes.NoMemory source
 
--- the file whose number is another, with both numbers
+-- the file whose number is another, with the feed of the setting, and both numbers
 abbrev pub number_cause : Sources → OtherNumber → Cause
-number_cause from (others.Case set number) = causes.Other from.case (others.Case set number)
-number_cause from (others.Wedge set number) = causes.Other from.wedge (others.Wedge set number)
+number_cause from (others.Case set number) = causes.Other from.case from.version.feed (others.Case set number)
+number_cause from (others.Wedge set number) = causes.Other from.wedge from.version.feed (others.Wedge set number)
 
 -- the faults of a copy or of a job are on standard output
 abbrev pub preview_cause : Sources → Bor Text → PreviewFault → Cause
@@ -238,8 +238,8 @@ preview_cause from target (previews.Feed why) = feed_cause from.version.feed why
 preview_cause from target (previews.Text why) = text_cause from.version.feed origins.Sought why
 preview_cause from target previews.TooLong = causes.LongText from.version.feed
 preview_cause from target (previews.Input why) = causes.CaseOrWedge from.case from.wedge why
-preview_cause from target previews.CopyFaults = causes.Said saids.CopyFaults
-preview_cause from target (previews.Faulty None) = causes.Said saids.NoRibbon
+preview_cause from target previews.CopyFaults = causes.CopyFaults from.version.feed
+preview_cause from target (previews.Faulty None) = causes.NoRibbon from.version.feed
 preview_cause from target (previews.Faulty (Some other)) = number_cause from other
 preview_cause from target previews.Write = causes.ReportOutput
 preview_cause from target (previews.Taken kind) = causes.Taken target kind

@@ -12,7 +12,8 @@ use Rattle.view_ribbon.specs.declared.fault.ComparisonFault.{ComparisonFault}
 use Rattle.program_desk.specs.Causes.{comparison_cause, difference_cause}
 use Rattle.program_desk.specs.Explained.{IsSilent, Reports}
 
--- what is reported of a version of a feed and of another feed was written, they hold the same or not; no file has changed
+-- what is reported of a version of a feed and of another feed was written, they hold the same or not; no file has
+-- changed
 abbrev pub IsCompared : Version → Text → Shelf → Shelf → Option (List ℕ) → Option (List ℕ) → Bool → Type 0
 IsCompared one other first last before after same = Stays first last × IsReported one other first before after same
 

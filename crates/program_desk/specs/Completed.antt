@@ -20,7 +20,8 @@ takes name rooms.Site =
 takes name rooms.Case =
     bytes_eq name (codes "proof") || (bytes_eq name (codes "punch") || (bytes_eq name (codes "read")
     || bytes_eq name (codes "sorts")))
-takes name rooms.Wedge = bytes_eq name (codes "proof") || (bytes_eq name (codes "punch") || bytes_eq name (codes "read"))
+takes name rooms.Wedge =
+    bytes_eq name (codes "proof") || (bytes_eq name (codes "punch") || bytes_eq name (codes "read"))
 takes name rooms.Set = bytes_eq name (codes "proof")
 
 -- the option as it is typed

@@ -4,6 +4,8 @@ use Rattle.std.specs.Fmt.{decimal}
 use Rattle.clap.specs.Words.{Text}
 use Rattle.program_desk.specs.Told.{GoesOn, IsNamed, IsShown, Tells}
 use Rattle.text_copy.specs.declared.fault.Cause as texts
+use Rattle.view_proof.specs.declared.reasons.OtherNumber.{OtherNumber}
+use Rattle.view_proof.specs.declared.reasons.OtherNumber.TheVariants as others
 use Rattle.program_desk.specs.declared.causes.Cause.{Cause}
 use Rattle.program_desk.specs.declared.causes.Cause.TheVariants as causes
 use Rattle.program_desk.specs.declared.causes.Output.{Output}
@@ -21,7 +23,15 @@ older_words site made held = codes ": site " ++ (decimal site ++ (codes " made "
 
 -- the place of a text that is no symbol of a copy, and why
 abbrev pub place_words : ℕ → ℕ → texts.Cause → List ℕ
-place_words line column why = codes ": line " ++ (decimal line ++ (codes ", column " ++ (decimal column ++ flaw_words why)))
+place_words line column why =
+    codes ": line " ++ (decimal line ++ (codes ", column " ++ (decimal column ++ flaw_words why)))
+
+-- what follows the name of a case or a wedge whose number is not that of its setting in a feed
+abbrev pub other_words : OtherNumber → List ℕ → List ℕ
+other_words (others.Case set number) feed = (codes ": it is case " ++ (decimal number ++ codes ", and "))
+    ++ (feed ++ (codes " has the setting case " ++ (decimal set ++ codes "\n")))
+other_words (others.Wedge set number) feed = (codes ": it is wedge " ++ (decimal number ++ codes ", and "))
+    ++ (feed ++ (codes " has the setting wedge " ++ (decimal set ++ codes "\n")))
 
 -- what is said of an output that would take the place of its source
 abbrev pub source_words : Output → List ℕ
@@ -30,7 +40,7 @@ source_words outputs.Picture = codes ": the picture would take its place\n"
 source_words outputs.Document = codes ": the document would take its place\n"
 
 -- The line on a cause. What files say of a refusal themselves, and what is said of a number, a case or a wedge, is any
--- text. Of a feed's fault, a kind and another number the line has the name of the file, and any text.
+-- text. Of a feed's fault and a kind the line has the name of the file, and any text.
 abbrev pub IsExplained : Cause → List ℕ → Type 0
 IsExplained (causes.Said said) line = line ≡ []
 IsExplained (causes.NoMemory feed) line = IsNamed feed.now (codes ": out of memory\n") line
@@ -48,7 +58,10 @@ IsExplained (causes.Source name output) line = IsNamed name.now (source_words ou
 IsExplained (causes.Number site why) line = ⊤
 IsExplained (causes.CaseOrWedge case wedge why) line = ⊤
 IsExplained (causes.Case case why) line = ⊤
-IsExplained (causes.Other name other) line = IsOf name.now line
+IsExplained (causes.CopyFaults feed) line = IsNamed feed.now (codes ": its copy has faults\n") line
+IsExplained (causes.NoRibbon feed) line = IsNamed feed.now (codes ": its job has faults\n") line
+IsExplained (causes.Other name feed other) line = (shown : List ℕ) × (owner : List ℕ) × IsShown name.now shown
+    × IsShown feed.now owner × (line ≡ shown ++ other_words other owner)
 IsExplained (causes.Unread name row column why) line = (shown : List ℕ) × IsShown name.now shown
     × (line ≡ shown ++ place_words row column why)
 IsExplained (causes.LongText name) line =

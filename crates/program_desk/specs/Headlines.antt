@@ -36,8 +36,6 @@ places_words count = if count == 1 then codes " place\n" else codes " places\n"
 -- the line that says all
 abbrev pub said_line : Said → List ℕ
 said_line saids.NoMemory = codes "copydesk: no memory\n"
-said_line saids.CopyFaults = codes "copydesk: copy faults\n"
-said_line saids.NoRibbon = codes "copydesk: no ribbon\n"
 said_line saids.Forks = codes "copydesk: number used twice\n"
 said_line saids.NoPlace = codes "copydesk: no place\n"
 said_line (saids.ManyPlaces count) = codes "copydesk: " ++ (decimal count ++ places_words count)
@@ -76,7 +74,9 @@ head_line (causes.Source name output) = codes "copydesk: file fault\n"
 head_line (causes.Number site why) = number_line why
 head_line (causes.CaseOrWedge case wedge why) = codes "copydesk: input refused\n"
 head_line (causes.Case case why) = codes "copydesk: input refused\n"
-head_line (causes.Other name other) = codes "copydesk: no ribbon\n"
+head_line (causes.CopyFaults feed) = codes "copydesk: copy faults\n"
+head_line (causes.NoRibbon feed) = codes "copydesk: no ribbon\n"
+head_line (causes.Other name feed other) = codes "copydesk: no ribbon\n"
 head_line (causes.Unread name line column why) = codes "copydesk: input refused\n"
 head_line (causes.LongText name) = codes "copydesk: too long\n"
 head_line (causes.LongRibbon name) = codes "copydesk: too long\n"

@@ -31,10 +31,6 @@ AreNoRooms feed first last before after whole quiet said = Stays first last × (
 abbrev pub sieve : Option ℕ → Option ℕ → Option (Bor Text) → Sieve
 sieve site since text = record { site = site; since = since; text = text }
 
--- the same with symbols for the text
-abbrev pub asked_with : Sieve → Option (Bor (List Symbol)) → Asked
-asked_with sieve symbols = record { site = sieve.site; since = sieve.since; text = symbols }
-
 -- the symbols of a text with marks, if one is given
 abbrev pub IsRead : Option (Bor Text) → Option (Bor (List Symbol)) → Type 0
 IsRead None symbols = symbols ≡ None

@@ -33,14 +33,16 @@ abbrev pub IsUnshown : Preview → Settings → Shelf → Shelf → Option (List
 IsUnshown asked trial first last before after fault =
     Stays first last × IsUnproofed asked.job trial asked.manner first last before after fault
 
--- the galley by these settings was written, it has no fault, and then what is asked for of picture and document was stored
+-- the galley by these settings was written, it has no fault, and then what is asked for of picture and document was
+-- stored
 abbrev pub IsSeenBy : Preview → Settings → Shelf → Shelf → Option (List ℕ) → Option (List ℕ) → Type 0
 IsSeenBy asked trial first last before after =
     (middle : Shelf) × IsShown asked trial first middle before after true × AreThere asked trial middle last
 
 -- standard error has the lines on a fault of a galley, which has no target
 abbrev pub ReportsProof : Job → PreviewFault → Bool → Option (List ℕ) → Option (List ℕ) → Type 0
-ReportsProof from fault whole quiet said = (target : Bor (List ℕ)) × Reports (proof_cause from target fault) whole quiet said
+ReportsProof from fault whole quiet said =
+    (target : Bor (List ℕ)) × Reports (proof_cause from target fault) whole quiet said
 
 -- Why the status is 1. The galley was not written, for another fault than that of the writer. Or the writer failed, and
 -- picture and document were stored all the same, or not; or the galley was written, and one of them not stored; or all
@@ -93,8 +95,8 @@ abbrev pub MakesRibbon : Galleys → List ℕ → Type 0
 MakesRibbon from target =
     IsSource from.first.now from.case.now from.wedge.now target ⊎ (is_one_of from.others.now target ≡ true)
 
--- the ribbon is stored under the name, and nothing was written; it took the place of another file only by force, of none
--- that it is made of, and no copy has a fault, unless such a copy is asked for
+-- the ribbon is stored under the name, and nothing was written; it took the place of another file only by force, of
+-- none that it is made of, and no copy has a fault, unless such a copy is asked for
 abbrev pub IsInFile : Galleys → List ℕ → Bool → Bool → Shelf → Shelf → Option (List ℕ) → Option (List ℕ) → Type 0
 IsInFile from target force faulty first last before after =
     (MakesRibbon from target → ⊥) × (after ≡ before)

@@ -23,8 +23,8 @@ Desk = completed some_options (codes "desk" ∷ codes "a.feed" ∷ [])
 
 -- a case that is typed, so a wedge and a setting for a proof, before the setting that is typed
 abbrev pub Proof : Type 0
-Proof = completed some_options (codes "proof" ∷ codes "a.feed" ∷ codes "--case=d.toml" ∷ codes "--set" ∷ codes "loose=90"
-    ∷ [])
+Proof = completed some_options
+    (codes "proof" ∷ codes "a.feed" ∷ codes "--case=d.toml" ∷ codes "--set" ∷ codes "loose=90" ∷ [])
     ≡ codes "proof" ∷ codes "--wedge=w.toml" ∷ codes "--set=loose=200" ∷ codes "a.feed" ∷ codes "--case=d.toml"
     ∷ codes "--set" ∷ codes "loose=90" ∷ []
 

@@ -1,6 +1,6 @@
 -- What the words of the command line ask for in a room, whose file gives options that need not be typed.
-use Rattle.std.specs.Prelude.{◌≡◌, ◌≢◌, ◌⊎◌, ℕ, Bool, true, List, ◌++◌, MatchBool, Option, Some, None, Result, Ok, Err, Vec}
-use Rattle.std.specs.Prelude.{codes, map, string_bytes, String}
+use Rattle.std.specs.Prelude.{◌≡◌, ◌≢◌, ◌⊎◌, ℕ, Bool, true, List, ◌++◌, MatchBool, Option, Some, None, Result, Ok}
+use Rattle.std.specs.Prelude.{Err, Vec, codes, map, string_bytes, String}
 use Rattle.std.specs.Borrow.{Bor}
 use Rattle.std.specs.declared.alloc.Global.{Global}
 use Rattle.clap.specs.Words.{Text}

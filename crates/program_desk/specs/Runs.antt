@@ -18,7 +18,10 @@ use Rattle.program_desk.specs.Readings.{IsListed, IsNotListed, IsNotReadWhole, I
 use Rattle.program_desk.specs.Wanted.{AreGalleys, preview_of, reading_of}
 use Rattle.view_punch.specs.declared.punching.Galleys.{Galleys}
 use Rattle.view_ribbon.specs.declared.comparing.Pair.{Pair}
+use Rattle.desk_script.specs.declared.feed_run.Room as desk_room
 use Rattle.feed_edit.specs.declared.exporting.Version.{Version}
+use Rattle.feed_edit.specs.declared.importing.ImportMode.{ImportMode}
+use Rattle.feed_edit.specs.declared.room.Room.{Room}
 use Rattle.feed_edit.specs.declared.texts.Where.{Where}
 use Rattle.feed_edit.specs.declared.texts.Where.TheVariants as wheres
 use Rattle.feed_history.specs.Rooms.{IsRoomsOf}
@@ -43,16 +46,27 @@ where_of None false = wheres.Once
 abbrev pub version_of : Bor Text → Option ℕ → Version
 version_of feed until = record { feed = feed; until = until }
 
+-- a stored feed that a room works on, and so for a desk
+abbrev pub room_of : Bor Text → ℕ → Bool → Room
+room_of feed site older = record { feed = feed; site = site; older = older }
+
+abbrev pub desk_of : Bor Text → ℕ → Bool → desk_room.Room
+desk_of feed site older = record { feed = feed; site = site; older = older }
+
+-- how a text is imported
+abbrev pub mode_of : Bool → Bool → ImportMode
+mode_of plain all = record { plain = plain; all = all }
+
 -- two ribbons, a case and a wedge
 abbrev pub pair_of : Bor Text → Bor Text → Bor Text → Bor Text → Pair
 pair_of one other case wedge = record { one = one; other = other; case = case; wedge = wedge }
 
--- what is asked for was done; a script, an export, a check, a proof and a reading that store nothing, and a list of sorts
--- change no file
+-- what is asked for was done; a script, an export, a check, a proof and a reading that store nothing, and a list of
+-- sorts change no file
 abbrev pub Does : Wish → Shelf → Shelf → Option (List ℕ) → Option (List ℕ) → Option (List ℕ) → Type 0
 Does (wishes.Script manner) first last input before after = IsScripted manner first last input before after
 Does (wishes.Desk feed site older why manner) first last input before after =
-    IsOnDesk manner feed.now site older first last input before after
+    IsOnDesk manner (desk_of feed site older) first last input before after
 Does (wishes.Merge feed others forks review) first last input before after =
     IsMergedAs feed.now (texts_of others.items) forks review first last before after
 Does (wishes.Diff one until other) first last input before after =
@@ -62,9 +76,9 @@ Does (wishes.Compare one other case wedge) first last input before after =
 Does (wishes.Export feed until) first last input before after =
     Stays first last × IsExported (version_of feed until) first before after
 Does (wishes.Import feed site older plain all) first last input before after =
-    IsImported feed.now site older plain all first last input before after
+    IsImported (room_of feed site older) (mode_of plain all) first last input before after
 Does (wishes.Replace feed site older old new plain at all) first last input before after =
-    IsReplaced feed.now site older (exchange old new plain (where_of at all)) first last before after
+    IsReplaced (room_of feed site older) (exchange old new plain (where_of at all)) first last before after
 Does (wishes.Check files) first last input before after = AreFound (texts_of files.items) first last before after
 Does (wishes.Proof galley drawings sets) first last input before after =
     IsSeen (preview_of galley drawings) sets.items first last before after
@@ -92,7 +106,7 @@ abbrev pub Stops : Wish → Shelf → Shelf → Option (List ℕ) → Option (Li
 Stops (wishes.Script manner) first last input before after whole quiet said =
     IsUnscripted manner first last input before after whole quiet said
 Stops (wishes.Desk feed site older why manner) first last input before after whole quiet said =
-    IsOffDesk manner feed site older why first last input before after whole quiet said
+    IsOffDesk manner (desk_of feed site older) why first last input before after whole quiet said
 Stops (wishes.Merge feed others forks review) first last input before after whole quiet said =
     IsNotMerged feed others.items forks review first last before after whole quiet said
 Stops (wishes.Diff one until other) first last input before after whole quiet said =
@@ -102,9 +116,10 @@ Stops (wishes.Compare one other case wedge) first last input before after whole 
 Stops (wishes.Export feed until) first last input before after whole quiet said =
     IsNotExported (version_of feed until) first last before after whole quiet said
 Stops (wishes.Import feed site older plain all) first last input before after whole quiet said =
-    IsNotImported feed site older plain all first last input before after whole quiet said
+    IsNotImported (room_of feed site older) (mode_of plain all) first last input before after whole quiet said
 Stops (wishes.Replace feed site older old new plain at all) first last input before after whole quiet said =
-    IsUnchanged feed site older (exchange old new plain (where_of at all)) first last before after whole quiet said
+    IsUnchanged (room_of feed site older) (exchange old new plain (where_of at all)) first last before after whole
+    quiet said
 Stops (wishes.Check files) first last input before after whole quiet said =
     AreNotInOrder (texts_of files.items) first last before after whole quiet said
 Stops (wishes.Proof galley drawings sets) first last input before after whole quiet said =

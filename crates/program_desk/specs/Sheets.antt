@@ -8,6 +8,7 @@ use Rattle.desk_script.specs.Desk.{desk}
 use Rattle.desk_script.specs.Fault.{IsOfLines}
 use Rattle.desk_script.specs.Script.{Answers, AnswersBefore, AnswersPrefix}
 use Rattle.desk_script.specs.Room.{AnswersInRoom, IsStoppedInRoom}
+use Rattle.desk_script.specs.declared.feed_run.Room.{Room}
 use Rattle.desk_script.specs.declared.fault.RoomFault.{RoomFault}
 use Rattle.desk_script.specs.declared.fault.RoomFault.TheVariants as rooms
 use Rattle.desk_script.specs.declared.fault.RunFault.{RunFault}
@@ -82,11 +83,10 @@ IsUnscripted manner first last input before after whole quiet said =
 
 -- the commands are carried out on a stored feed, which is not older than what was stored here, or that is wanted; and
 -- it is stored
-abbrev pub IsOnDesk : Manner → Text → ℕ → Bool → Shelf → Shelf → Option (List ℕ) → Option (List ℕ) → Option (List ℕ)
-    → Type 0
-IsOnDesk manner feed site older first last input before after =
-    MatchBool (is_sheet manner) (IsStoredSheet (mode_of manner) feed site older first last input before after)
-    (AnswersInRoom feed site older first last input before after)
+abbrev pub IsOnDesk : Manner → Room → Shelf → Shelf → Option (List ℕ) → Option (List ℕ) → Option (List ℕ) → Type 0
+IsOnDesk manner room first last input before after =
+    MatchBool (is_sheet manner) (IsStoredSheet (mode_of manner) room first last input before after)
+    (AnswersInRoom room first last input before after)
 
 -- the feed is older: a second line is written, though none asks why
 abbrev pub is_older : RoomFault → Bool
@@ -100,11 +100,11 @@ is_older_sheet (stops.Run fault) = false
 
 -- They stopped for a fault, this is what they left, and standard error has the lines on this fault: the first and,
 -- where it is asked why or the feed is older, the second.
-abbrev pub IsOffDesk : Manner → Bor Text → ℕ → Bool → Bool → Shelf → Shelf → Option (List ℕ) → Option (List ℕ)
-    → Option (List ℕ) → Bool → Option (List ℕ) → Option (List ℕ) → Type 0
-IsOffDesk manner feed site older why first last input before after whole quiet said =
+abbrev pub IsOffDesk : Manner → Room → Bool → Shelf → Shelf → Option (List ℕ) → Option (List ℕ) → Option (List ℕ)
+    → Bool → Option (List ℕ) → Option (List ℕ) → Type 0
+IsOffDesk manner room why first last input before after whole quiet said =
     MatchBool (is_sheet manner) ((fault : SheetFault)
-    × sheets.IsStoppedOnFeed (mode_of manner) feed.now site older first last input before after fault
-    × TellsOf (why || is_older_sheet fault) (stop_cause feed site fault) whole quiet said)
-    ((fault : RoomFault) × IsStoppedInRoom feed.now site older first last input before after fault
-    × TellsOf (why || is_older fault) (room_cause feed site fault) whole quiet said)
+    × sheets.IsStoppedOnFeed (mode_of manner) room first last input before after fault
+    × TellsOf (why || is_older_sheet fault) (stop_cause room.feed room.site fault) whole quiet said)
+    ((fault : RoomFault) × IsStoppedInRoom room first last input before after fault
+    × TellsOf (why || is_older fault) (room_cause room.feed room.site fault) whole quiet said)

@@ -7,6 +7,7 @@ use Rattle.feed_check.specs.Checking.{IsChecked, IsUnchecked}
 use Rattle.feed_check.specs.declared.fault.CheckFault.{CheckFault}
 use Rattle.feed_edit.specs.Replacing.{IsUnreplaced}
 use Rattle.feed_edit.specs.declared.replace_fault.ReplaceFault.{ReplaceFault}
+use Rattle.feed_edit.specs.declared.room.Room.{Room}
 use Rattle.feed_edit.specs.declared.texts.Exchange.{Exchange}
 use Rattle.feed_edit.specs.declared.texts.Where.{Where}
 use Rattle.program_desk.specs.Causes.{check_cause, replace_cause}
@@ -17,11 +18,11 @@ abbrev pub exchange : Bor Text → Bor Text → Bool → Where → Exchange
 exchange old new plain at = record { from = old; to = new; plain = plain; at = at }
 
 -- why the one text was not made the other, what was left, and what standard error has
-abbrev pub IsUnchanged : Bor Text → ℕ → Bool → Exchange → Shelf → Shelf → Option (List ℕ) → Option (List ℕ)
+abbrev pub IsUnchanged : Room → Exchange → Shelf → Shelf → Option (List ℕ) → Option (List ℕ)
     → Bool → Option (List ℕ) → Option (List ℕ) → Type 0
-IsUnchanged feed site older exchange first last before after whole quiet said = (fault : ReplaceFault)
-    × IsUnreplaced feed.now site older exchange first last before after fault
-    × Reports (replace_cause feed site fault) whole quiet said
+IsUnchanged room exchange first last before after whole quiet said = (fault : ReplaceFault)
+    × IsUnreplaced room exchange first last before after fault
+    × Reports (replace_cause room.feed room.site fault) whole quiet said
 
 -- each file has its line, all are in order or one is not; no file has changed
 abbrev pub AreReported : List Text → Shelf → Shelf → Option (List ℕ) → Option (List ℕ) → Bool → Type 0

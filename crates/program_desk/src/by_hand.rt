@@ -1,5 +1,5 @@
-//! What is done by hand with a stored feed, and how it ended. Where it was not done a line says so, and a second one the
-//! cause, unless the first says all.
+//! What is done by hand with a stored feed, and how it ended. Where it was not done a line says so, and a second one
+//! the cause, unless the first says all.
 
 ghost use Rattle.std.specs.Prelude.{◌≡◌, ◌≤◌, ◌⊎◌, List, MatchResult, [], slice_get, true, ℕ};
 ghost use Rattle.feed_edit.specs.Exporting.{IsExported};
@@ -19,14 +19,48 @@ use crate::causes::{export_cause, import_cause, merge_cause, renew_cause, renumb
 use crate::reporting::{reported, stopped};
 use crate::told::{Ending, Told, ended, tell_more};
 use feed_edit::{
-    ExportFault, ImportFault, MergeFault, SiteStamps, Version, export_feed, forks_line,
-    import_text, merge_feeds,
+    ExportFault, ImportFault, ImportMode, MergeFault, Room, SiteStamps, Version, export_feed,
+    forks_line, import_text, merge_feeds,
 };
 use feed_files::Files;
 use feed_sites::{RenewFault, RenumberFault, renew_feed, renumber_feed};
 use program_host::Explains;
 use std::alloc::Global;
 use std::io::{Read, Write};
+
+/// A merge of the feeds of other files into a stored one.
+#[derive(Clone, Copy)]
+pub struct Merge<'a> {
+    pub feed: &'a str,
+    pub others: &'a [&'a str],
+    /// A number that was used twice stops nothing.
+    pub forks: bool,
+    /// Words that are open give the status 1.
+    pub review: bool,
+}
+
+/// An import of a text as the copy of a stored feed.
+#[derive(Clone, Copy)]
+pub struct Import<'a> {
+    pub room: Room<'a>,
+    pub mode: ImportMode,
+}
+
+/// A new feed with the copy and the settings of a stored one, made by a site.
+#[derive(Clone, Copy)]
+pub struct Renewal<'a> {
+    pub new: &'a str,
+    pub feed: &'a str,
+    pub site: u16,
+}
+
+/// Another number for what a stored feed has under one that another feed used too.
+#[derive(Clone, Copy)]
+pub struct Renumbering<'a> {
+    pub feed: &'a str,
+    pub other: &'a str,
+    pub site: u16,
+}
 
 /// The name at a place, if there is one.
 fn name_at<'a>(others: &'a [&'a str], at: usize) -> Option<&'a str>
@@ -87,17 +121,21 @@ fn merge_ending<E: Write, F: Explains>(
     alloc: Global,
     faults: &mut E,
     files: &F,
-    feed: &str,
-    others: &[&str],
-    review: bool,
+    merge: Merge<'_>,
     outcome: Result<bool, MergeFault<Global>>,
 ) -> Ending
     ensures { MatchResult outcome
-        (λ clean. (result.status ≡ status_of review clean)
+        (λ clean. (result.status ≡ status_of merge.entry.review clean)
         × IsSilent result.told.is_whole (E.contents faults.old) (E.contents faults.new))
-        (λ fault. (result.status ≡ 1)
-        × TellsMerge feed.entry others.now fault result.told.is_whole (E.contents faults.old) (E.contents faults.new)) }
+        (λ fault. (result.status ≡ 1) × TellsMerge merge.entry.feed merge.entry.others.now fault
+        result.told.is_whole (E.contents faults.old) (E.contents faults.new)) }
 {
+    let Merge {
+        feed,
+        others,
+        review,
+        ..
+    } = merge;
     match outcome {
         Ok(clean) => ended(status_of(review, clean)),
         Err(fault) => {
@@ -113,25 +151,22 @@ fn merge_ending<E: Write, F: Explains>(
 /// that is to be reviewed.
 pub fn merged<W: Write, E: Write, F: Files + Explains>(
     alloc: Global,
-    feed: &str,
-    others: &[&str],
-    forks: bool,
-    review: bool,
+    merge: Merge<'_>,
     writer: &mut W,
     faults: &mut E,
     files: &mut F,
 ) -> Ending
     ensures within { result.status ≤ 1 }
     ensures done { result.status ≡ 0
-        → IsMergedAs feed.now (texts_of others.now) forks review (F.shelf files.old) (F.shelf files.new)
-        (W.contents writer.old) (W.contents writer.new) }
+        → IsMergedAs merge.entry.feed.now (texts_of merge.entry.others.now) merge.entry.forks merge.entry.review
+        (F.shelf files.old) (F.shelf files.new) (W.contents writer.old) (W.contents writer.new) }
     ensures stopped { result.status ≡ 1
-        → IsNotMerged feed.entry others.now forks review (F.shelf files.old) (F.shelf files.new)
-        (W.contents writer.old) (W.contents writer.new) result.told.is_whole (E.contents faults.old)
-        (E.contents faults.new) }
+        → IsNotMerged merge.entry.feed merge.entry.others.now merge.entry.forks merge.entry.review
+        (F.shelf files.old) (F.shelf files.new) (W.contents writer.old) (W.contents writer.new)
+        result.told.is_whole (E.contents faults.old) (E.contents faults.new) }
 {
-    let outcome = merge_feeds(alloc, writer, files, feed, others, forks);
-    merge_ending(alloc, faults, files, feed, others, review, outcome)
+    let outcome = merge_feeds(alloc, writer, files, merge.feed, merge.others, merge.forks);
+    merge_ending(alloc, faults, files, merge, outcome)
 }
 
 /// How an export, or another report of a feed alone, ended.
@@ -193,28 +228,25 @@ fn import_ending<E: Write, F: Explains>(
 /// Makes the copy of a stored feed the text of a reader, and says how that ended.
 pub fn imported<R: Read, W: Write, E: Write, F: Files + Explains>(
     alloc: Global,
-    feed: &str,
-    site: u16,
-    older: bool,
-    plain: bool,
-    all: bool,
+    import: Import<'_>,
     reader: &mut R,
     writer: &mut W,
     faults: &mut E,
     files: &mut F,
 ) -> Ending
-    requires { 1 ≤ site }
+    requires { 1 ≤ import.room.site }
     ensures within { result.status ≤ 1 }
     ensures done { result.status ≡ 0
-        → IsImported feed.now site older plain all (F.shelf files.old) (F.shelf files.new) (R.remaining reader.old)
-        (W.contents writer.old) (W.contents writer.new) }
+        → IsImported import.entry.room import.entry.mode (F.shelf files.old) (F.shelf files.new)
+        (R.remaining reader.old) (W.contents writer.old) (W.contents writer.new) }
     ensures stopped { result.status ≡ 1
-        → IsNotImported feed.entry site older plain all (F.shelf files.old) (F.shelf files.new)
+        → IsNotImported import.entry.room import.entry.mode (F.shelf files.old) (F.shelf files.new)
         (R.remaining reader.old) (W.contents writer.old) (W.contents writer.new) result.told.is_whole
         (E.contents faults.old) (E.contents faults.new) }
 {
-    let outcome = import_text(alloc, reader, writer, files, feed, site, older, plain, all);
-    import_ending(alloc, faults, files, feed, site, outcome)
+    let Import { room, mode } = import;
+    let outcome = import_text(alloc, reader, writer, files, room, mode);
+    import_ending(alloc, faults, files, room.feed, room.site, outcome)
 }
 
 /// How a renewal ended.
@@ -239,22 +271,22 @@ fn renew_ending<E: Write, F: Explains>(
 /// Begins a new feed with the copy and the settings of a stored one, and says how that ended.
 pub fn renewed<W: Write, E: Write, F: Files + Explains>(
     alloc: Global,
-    new: &str,
-    feed: &str,
-    site: u16,
+    renewal: Renewal<'_>,
     writer: &mut W,
     faults: &mut E,
     files: &mut F,
 ) -> Ending
-    requires { 1 ≤ site }
+    requires { 1 ≤ renewal.site }
     ensures within { result.status ≤ 1 }
     ensures done { result.status ≡ 0
-        → IsRenewed new.now feed.now site (F.shelf files.old) (F.shelf files.new) (W.contents writer.old)
-        (W.contents writer.new) }
+        → IsRenewed renewal.entry.new.now renewal.entry.feed.now renewal.entry.site (F.shelf files.old)
+        (F.shelf files.new) (W.contents writer.old) (W.contents writer.new) }
     ensures stopped { result.status ≡ 1
-        → IsNotMadeAnew new.entry feed.entry (F.shelf files.old) (F.shelf files.new) (W.contents writer.old)
-        (W.contents writer.new) result.told.is_whole (E.contents faults.old) (E.contents faults.new) }
+        → IsNotMadeAnew renewal.entry.new renewal.entry.feed (F.shelf files.old) (F.shelf files.new)
+        (W.contents writer.old) (W.contents writer.new) result.told.is_whole (E.contents faults.old)
+        (E.contents faults.new) }
 {
+    let Renewal { new, feed, site } = renewal;
     let outcome = renew_feed(alloc, writer, files, new, feed, site);
     renew_ending(alloc, faults, files, new, feed, outcome)
 }
@@ -264,15 +296,15 @@ fn renumber_ending<E: Write, F: Explains>(
     alloc: Global,
     faults: &mut E,
     files: &F,
-    feed: &str,
-    other: &str,
-    site: u16,
+    asked: Renumbering<'_>,
     outcome: Result<(), RenumberFault>,
 ) -> Ending
     ensures { MatchResult outcome (λ _. result.status ≡ 0)
-        (λ fault. (result.status ≡ 1) × TellsOf true (renumber_cause feed.entry other.entry site fault)
+        (λ fault. (result.status ≡ 1)
+        × TellsOf true (renumber_cause asked.entry.feed asked.entry.other asked.entry.site fault)
         result.told.is_whole (E.contents faults.old) (E.contents faults.new)) }
 {
+    let Renumbering { feed, other, site } = asked;
     match outcome {
         Ok(()) => ended(0),
         Err(fault) => {
@@ -282,25 +314,25 @@ fn renumber_ending<E: Write, F: Explains>(
     }
 }
 
-/// Gives another number to the operations of a stored feed whose stamps another feed bears too, and says how that ended.
+/// Gives another number to the operations of a stored feed whose stamps another feed bears too, and says how that
+/// ended.
 pub fn renumbered<W: Write, E: Write, F: Files + Explains>(
     alloc: Global,
-    feed: &str,
-    other: &str,
-    site: u16,
+    asked: Renumbering<'_>,
     writer: &mut W,
     faults: &mut E,
     files: &mut F,
 ) -> Ending
-    requires { 1 ≤ site }
+    requires { 1 ≤ asked.site }
     ensures within { result.status ≤ 1 }
     ensures done { result.status ≡ 0
-        → IsRenumbered feed.now other.now site (F.shelf files.old) (F.shelf files.new) (W.contents writer.old)
-        (W.contents writer.new) }
+        → IsRenumbered asked.entry.feed.now asked.entry.other.now asked.entry.site (F.shelf files.old)
+        (F.shelf files.new) (W.contents writer.old) (W.contents writer.new) }
     ensures stopped { result.status ≡ 1
-        → IsNotNumbered feed.entry other.entry site (F.shelf files.old) (F.shelf files.new) (W.contents writer.old)
-        (W.contents writer.new) result.told.is_whole (E.contents faults.old) (E.contents faults.new) }
+        → IsNotNumbered asked.entry.feed asked.entry.other asked.entry.site (F.shelf files.old)
+        (F.shelf files.new) (W.contents writer.old) (W.contents writer.new) result.told.is_whole
+        (E.contents faults.old) (E.contents faults.new) }
 {
-    let outcome = renumber_feed(alloc, writer, files, feed, other, site);
-    renumber_ending(alloc, faults, files, feed, other, site, outcome)
+    let outcome = renumber_feed(alloc, writer, files, asked.feed, asked.other, asked.site);
+    renumber_ending(alloc, faults, files, asked, outcome)
 }

@@ -46,10 +46,6 @@ pub enum Origin {
 pub enum Said {
     /// Memory ran out for the words of the command line, or for what a check writes.
     NoMemory,
-    /// The copy has faults, and they are on standard output.
-    CopyFaults,
-    /// The job has faults, and they are on standard output.
-    NoRibbon,
     /// Two rooms used one number. Another line has the counters.
     Forks,
     /// The text has no place in the copy.
@@ -94,8 +90,12 @@ pub enum Cause<'a> {
     CaseOrWedge(&'a str, &'a str, Refusal),
     /// This file of a case is not read, or is refused.
     Case(&'a str, Refusal),
-    /// The number of the case or of the wedge of this file is not that of its setting.
-    Other(&'a str, OtherNumber),
+    /// The copy of this feed has faults, and they are on standard output.
+    CopyFaults(&'a str),
+    /// The job of this feed has faults, and they are on standard output.
+    NoRibbon(&'a str),
+    /// The number of the case or of the wedge of this file is not that of its setting in this feed.
+    Other(&'a str, &'a str, OtherNumber),
     /// This file's text is no copy: its first fault, by line and column.
     Unread(&'a str, u64, u64, text_copy::Cause),
     /// This file's text is longer than any that is set.
@@ -390,13 +390,15 @@ fn unstored_cause<'a>(source: &'a str, target: &'a str, why: FileRefusal) -> Cau
     }
 }
 
-/// The cause where the number of a case or of a wedge is another: its file, and both numbers.
+/// The cause where the number of a case or of a wedge is another: its file, the feed with the setting, and both
+/// numbers.
 fn number_cause<'a>(from: &Sources<'a>, other: OtherNumber) -> Cause<'a>
     ensures { result ≡ number_cause from.now other }
 {
+    let feed = from.version.feed;
     match other {
-        OtherNumber::Case { .. } => Cause::Other(from.case, other),
-        OtherNumber::Wedge { .. } => Cause::Other(from.wedge, other),
+        OtherNumber::Case { .. } => Cause::Other(from.case, feed, other),
+        OtherNumber::Wedge { .. } => Cause::Other(from.wedge, feed, other),
     }
 }
 
@@ -409,8 +411,8 @@ pub fn preview_cause<'a>(from: &Sources<'a>, target: &'a str, fault: PreviewFaul
         PreviewFault::Text(why) => text_cause(from.version.feed, Origin::Sought, why),
         PreviewFault::TooLong => Cause::LongText(from.version.feed),
         PreviewFault::Input(why) => Cause::CaseOrWedge(from.case, from.wedge, why),
-        PreviewFault::CopyFaults => Cause::Said(Said::CopyFaults),
-        PreviewFault::Faulty(None) => Cause::Said(Said::NoRibbon),
+        PreviewFault::CopyFaults => Cause::CopyFaults(from.version.feed),
+        PreviewFault::Faulty(None) => Cause::NoRibbon(from.version.feed),
         PreviewFault::Faulty(Some(other)) => number_cause(from, other),
         PreviewFault::Write => Cause::ReportOutput,
         PreviewFault::Taken(kind) => Cause::Taken(target, kind),

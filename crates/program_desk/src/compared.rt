@@ -42,7 +42,8 @@ fn difference_ending<E: Write, F: Explains>(
     }
 }
 
-/// Says in what a version of a stored feed and another feed differ, and how that ended: with status 0 only where they hold the same.
+/// Says in what a version of a stored feed and another feed differ, and how that ended: with status 0 only where they
+/// hold the same.
 pub fn compared<W: Write, E: Write, F: Files + Explains>(
     alloc: Global,
     one: Version<'_>,
@@ -87,8 +88,8 @@ fn comparison_ending<E: Write, F: Explains>(
     }
 }
 
-/// Says which lines of two ribbons a caster casts otherwise, and how that ended: with status 0 only where both are cast,
-/// and alike.
+/// Says which lines of two ribbons a caster casts otherwise, and how that ended: with status 0 only where both are
+/// cast, and alike.
 pub fn cast_compared<W: Write, E: Write, F: Files + Explains>(
     alloc: Global,
     pair: &Pair<'_>,

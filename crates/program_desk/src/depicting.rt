@@ -55,8 +55,8 @@ fn picture_by<F: Files>(
     }
 }
 
-/// Stores the picture of a galley, where one is asked for, after what was written on standard error: with status 0 where
-/// none is asked for or it is there.
+/// Stores the picture of a galley, where one is asked for, after what was written on standard error: with status 0
+/// where none is asked for or it is there.
 fn pictured<E: Write, F: Files + Explains>(
     alloc: Global,
     asked: &Preview<'_>,
@@ -224,8 +224,8 @@ fn document_taking<'a>(asked: &Preview<'a>) -> Option<Cause<'a>>
     }
 }
 
-/// Why nothing is begun, if so: the picture or the document would take the place of a file that is read, or the document
-/// that of the picture.
+/// Why nothing is begun, if so: the picture or the document would take the place of a file that is read, or the
+/// document that of the picture.
 pub fn misplaced<'a>(asked: &Preview<'a>) -> Option<Cause<'a>>
     ensures { IsMisplaced asked.now result }
 {

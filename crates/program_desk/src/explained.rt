@@ -3,16 +3,17 @@
 ghost use Rattle.std.specs.Prelude.{◌≡◌, ◌++◌, ℕ, List, true, codes};
 ghost use Rattle.std.specs.Fmt.{decimal};
 ghost use Rattle.program_desk.specs.Explained.{IsExplainedBy, ExplainsIf, TellsMore, older_words, place_words};
-ghost use Rattle.program_desk.specs.Explained.{source_words};
+ghost use Rattle.program_desk.specs.Explained.{other_words, source_words};
 ghost use Rattle.program_desk.specs.Told.{GoesOn, IsNamed, IsPrintable, IsShown};
 
 use crate::causes::{Cause, Output};
-use crate::headlines::{flaw_words, tell_head, tell_two};
+use crate::headlines::{flaw_words, tell_count, tell_head, tell_two};
 use crate::told::{Told, tell_more, tell_number};
-use crate::words::{explain_case, explain_input, explain_number, explain_other};
+use crate::words::{explain_case, explain_input, explain_number};
 use program_host::{Explains, Plain};
 use std::alloc::Global;
 use std::io::Write;
+use view_proof::OtherNumber;
 
 /// Whether each byte of a name is a printable character of ASCII.
 fn is_printable(name: &[u8]) -> bool
@@ -126,8 +127,65 @@ fn tell_setting<E: Write>(alloc: Global, faults: &mut E, told: Told, text: &str)
     )
 }
 
-/// What is said of a cause in other words than these; nothing where there is no memory for it. Of a feed's fault, a
-/// kind and another number it is what follows the name of the file.
+/// Writes two numbers, each after words of its own, and the name of a feed between them.
+fn tell_numbers<E: Write>(
+    alloc: Global,
+    faults: &mut E,
+    told: Told,
+    feed: &str,
+    words: (&str, &str),
+    numbers: (u64, u64),
+) -> Told
+    ensures { (shown : List ℕ) × IsShown feed.now shown
+        × GoesOn told.is_whole result.is_whole (E.contents faults.old) (E.contents faults.new)
+        ((words.entry.0.now ++ (decimal numbers.0 ++ codes ", and "))
+        ++ (shown ++ (words.entry.1.now ++ (decimal numbers.1 ++ codes "\n")))) }
+{
+    let begun = tell_count(faults, told, words.0, numbers.0, ", and ");
+    let named = tell_name(alloc, faults, begun, feed);
+    tell_count(faults, named, words.1, numbers.1, "\n")
+}
+
+/// Writes what follows the name of a case or a wedge whose number is not that of its setting in a feed.
+fn tell_other<E: Write>(
+    alloc: Global,
+    faults: &mut E,
+    told: Told,
+    feed: &str,
+    other: OtherNumber,
+) -> Told
+    ensures { (shown : List ℕ) × IsShown feed.now shown
+        × GoesOn told.is_whole result.is_whole (E.contents faults.old) (E.contents faults.new)
+        (other_words other shown) }
+{
+    match other {
+        OtherNumber::Case { set, number } => {
+            let words = (": it is case ", " has the setting case ");
+            tell_numbers(
+                alloc,
+                faults,
+                told,
+                feed,
+                words,
+                (number as u64, set as u64),
+            )
+        }
+        OtherNumber::Wedge { set, number } => {
+            let words = (": it is wedge ", " has the setting wedge ");
+            tell_numbers(
+                alloc,
+                faults,
+                told,
+                feed,
+                words,
+                (number as u64, set as u64),
+            )
+        }
+    }
+}
+
+/// What is said of a cause in other words than these; nothing where there is no memory for it. Of a feed's fault and a
+/// kind it is what follows the name of the file.
 fn words_on<F: Explains>(alloc: Global, files: &F, cause: Cause<'_>) -> Vec<u8> {
     let mut words = Vec::new(alloc);
     let written = match cause {
@@ -140,7 +198,6 @@ fn words_on<F: Explains>(alloc: Global, files: &F, cause: Cause<'_>) -> Vec<u8> 
         Cause::Number(site, why) => explain_number(&mut words, site, why),
         Cause::CaseOrWedge(case, wedge, why) => explain_input(&mut words, files, case, wedge, why),
         Cause::Case(case, why) => explain_case(&mut words, files, case, why),
-        Cause::Other(_, other) => explain_other(&mut words, other),
         _ => Ok(()),
     };
     if written.is_err() {
@@ -204,7 +261,14 @@ fn explain<E: Write, F: Explains>(
         Cause::Source(name, output) => {
             tell_named(alloc, faults, told, name, source_words(output).as_bytes())
         }
-        Cause::Other(name, _) => tell_of(alloc, faults, told, files, name, cause),
+        Cause::CopyFaults(feed) => {
+            tell_named(alloc, faults, told, feed, b": its copy has faults\n")
+        }
+        Cause::NoRibbon(feed) => tell_named(alloc, faults, told, feed, b": its job has faults\n"),
+        Cause::Other(name, feed, other) => {
+            let named = tell_name(alloc, faults, told, name);
+            tell_other(alloc, faults, named, feed, other)
+        }
         Cause::Unread(name, line, column, why) => {
             let named = tell_name(alloc, faults, told, name);
             tell_place(faults, named, line, column, why)

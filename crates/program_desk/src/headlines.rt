@@ -69,7 +69,13 @@ fn tell_words<E: Write>(faults: &mut E, told: Told, words: &str) -> Told
 }
 
 /// Writes a number between two texts.
-fn tell_count<E: Write>(faults: &mut E, told: Told, before: &str, number: u64, after: &str) -> Told
+pub fn tell_count<E: Write>(
+    faults: &mut E,
+    told: Told,
+    before: &str,
+    number: u64,
+    after: &str,
+) -> Told
     ensures { GoesOn told.is_whole result.is_whole (E.contents faults.old) (E.contents faults.new)
         (before.now ++ (decimal number ++ after.now)) }
 {
@@ -107,8 +113,6 @@ fn tell_said<E: Write>(faults: &mut E, told: Told, said: Said) -> Told
 {
     match said {
         Said::NoMemory => tell_more(faults, told, b"copydesk: no memory\n"),
-        Said::CopyFaults => tell_more(faults, told, b"copydesk: copy faults\n"),
-        Said::NoRibbon => tell_more(faults, told, b"copydesk: no ribbon\n"),
         Said::Forks => tell_more(faults, told, b"copydesk: number used twice\n"),
         Said::NoPlace => tell_more(faults, told, b"copydesk: no place\n"),
         Said::ManyPlaces(count) => {
@@ -146,7 +150,9 @@ pub fn tell_head<E: Write>(faults: &mut E, told: Told, cause: Cause<'_>) -> Told
         Cause::Number(_, why) => tell_words(faults, told, number_line(why)),
         Cause::CaseOrWedge(_, _, _) => tell_more(faults, told, b"copydesk: input refused\n"),
         Cause::Case(_, _) => tell_more(faults, told, b"copydesk: input refused\n"),
-        Cause::Other(_, _) => tell_more(faults, told, b"copydesk: no ribbon\n"),
+        Cause::CopyFaults(_) => tell_more(faults, told, b"copydesk: copy faults\n"),
+        Cause::NoRibbon(_) => tell_more(faults, told, b"copydesk: no ribbon\n"),
+        Cause::Other(_, _, _) => tell_more(faults, told, b"copydesk: no ribbon\n"),
         Cause::Unread(_, _, _, _) => tell_more(faults, told, b"copydesk: input refused\n"),
         Cause::LongText(_) => tell_more(faults, told, b"copydesk: too long\n"),
         Cause::LongRibbon(_) => tell_more(faults, told, b"copydesk: too long\n"),

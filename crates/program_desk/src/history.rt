@@ -1,20 +1,19 @@
 //! What a stored feed shows of its sites and its corrections, and where a text is in its copy.
 
-ghost use Rattle.std.specs.Prelude.{◌≡◌, ◌≤◌, MatchResult, Some, false, true};
+ghost use Rattle.std.specs.Prelude.{◌≡◌, ◌≤◌, MatchResult, false, true};
 ghost use Rattle.feed_files.specs.Files.{Stays};
 ghost use Rattle.feed_history.specs.Log.{IsLogged};
 ghost use Rattle.feed_history.specs.Rooms.{IsRoomsOf};
 ghost use Rattle.program_desk.specs.Causes.{preview_cause};
 ghost use Rattle.program_desk.specs.Explained.{IsSilent, Reports};
 ghost use Rattle.program_desk.specs.History.{AreNoRooms, IsFoundThere, IsLoggedThere, IsNotFound, IsNotLogged};
-ghost use Rattle.program_desk.specs.History.{IsNotLoggedBy, asked_with, sought_in};
+ghost use Rattle.program_desk.specs.History.{IsNotLoggedBy, sought_in};
 
 use crate::by_hand::export_ending;
 use crate::causes::{Origin, preview_cause, text_cause};
 use crate::previews::memory_of;
 use crate::reporting::reported;
 use crate::told::{Ending, ended};
-use desk_ops::Symbol;
 use feed_edit::Version;
 use feed_files::Files;
 use feed_history::{Asked, report_log, report_rooms};
@@ -73,33 +72,6 @@ fn logged_by<W: Write, E: Write, F: Files + Explains>(
     export_ending(alloc, faults, files, feed, outcome)
 }
 
-/// Writes the corrections of a stored feed that are asked for, by the symbols of their text, and says how that ended.
-fn logged_with<W: Write, E: Write, F: Files + Explains>(
-    alloc: Global,
-    feed: &str,
-    sieve: &Sieve<'_>,
-    symbols: &[Symbol],
-    writer: &mut W,
-    faults: &mut E,
-    files: &mut F,
-) -> Ending
-    ensures within { result.status ≤ 1 }
-    ensures done { result.status ≡ 0 → Stays (F.shelf files.old) (F.shelf files.new)
-        × IsLogged (asked_with sieve.now (Some symbols.entry)) feed.now (F.shelf files.old) (W.contents writer.old)
-        (W.contents writer.new) }
-    ensures stopped { result.status ≡ 1
-        → IsNotLoggedBy feed.entry (asked_with sieve.now (Some symbols.entry)) (F.shelf files.old) (F.shelf files.new)
-        (W.contents writer.old) (W.contents writer.new) result.told.is_whole (E.contents faults.old)
-        (E.contents faults.new) }
-{
-    let asked = Asked {
-        site: sieve.site,
-        since: sieve.since,
-        text: Some(symbols),
-    };
-    logged_by(alloc, feed, &asked, writer, faults, files)
-}
-
 /// Writes the corrections of a stored feed that are asked for, once the text is read, and says how that ended.
 pub fn logged<W: Write, E: Write, F: Files + Explains>(
     alloc: Global,
@@ -126,7 +98,14 @@ pub fn logged<W: Write, E: Write, F: Files + Explains>(
         return logged_by(alloc, feed, &asked, writer, faults, files);
     };
     match read_text(alloc, text.as_bytes(), false) {
-        Ok(symbols) => logged_with(alloc, feed, sieve, &symbols, writer, faults, files),
+        Ok(symbols) => {
+            let asked = Asked {
+                site: sieve.site,
+                since: sieve.since,
+                text: Some(&symbols),
+            };
+            logged_by(alloc, feed, &asked, writer, faults, files)
+        }
         Err(why) => reported(alloc, faults, files, text_cause(feed, Origin::Sought, why)),
     }
 }

@@ -136,6 +136,15 @@ pub fn proofed<W: Write, E: Write, F: Files + Explains>(
     }
 }
 
+/// Galleys of stored feeds, and the file that their ribbon is stored in.
+#[derive(Clone, Copy)]
+pub struct Punch<'a> {
+    pub from: Galleys<'a>,
+    pub target: Target<'a>,
+    /// A copy with faults is punched.
+    pub faulty: bool,
+}
+
 /// Whether a name is one of these.
 fn is_one_of(names: &[&str], target: &str) -> bool
     ensures { result ≡ is_one_of names.now target.now }
@@ -175,30 +184,33 @@ fn punch_ending<E: Write, F: Explains>(
 }
 
 /// Stores the ribbon of stored feeds, one galley after the other, under the name of a target, and says how that ended.
-/// The ribbon replaces only a ribbon, or, by force, any file but the feeds, the case and the wedge. A copy with faults is
-/// punched only where that is asked for. A stop is that of the feed at which it came, and nothing is stored then.
+/// The ribbon replaces only a ribbon, or, by force, any file but the feeds, the case and the wedge. A copy with faults
+/// is punched only where that is asked for. A stop is that of the feed at which it came, and nothing is stored then.
 pub fn punched<W: Write, E: Write, F: Files + Explains>(
     alloc: Global,
-    from: &Galleys<'_>,
-    target: &Target<'_>,
-    faulty: bool,
+    punch: &Punch<'_>,
     writer: &mut W,
     faults: &mut E,
     files: &mut F,
 ) -> Ending
     ensures within { result.status ≤ 1 }
     ensures done { result.status ≡ 0
-        → IsInFile from.now target.now.name.now target.now.force faulty (F.shelf files.old) (F.shelf files.new)
-        (W.contents writer.old) (W.contents writer.new) }
+        → IsInFile punch.now.from punch.now.target.name.now punch.now.target.force punch.now.faulty
+        (F.shelf files.old) (F.shelf files.new) (W.contents writer.old) (W.contents writer.new) }
     ensures stopped { result.status ≡ 1
-        → IsInNoFile from.now target.now.name target.now.force faulty (F.shelf files.old) (F.shelf files.new)
-        (W.contents writer.old) (W.contents writer.new) result.told.is_whole (E.contents faults.old)
-        (E.contents faults.new) }
+        → IsInNoFile punch.now.from punch.now.target.name punch.now.target.force punch.now.faulty
+        (F.shelf files.old) (F.shelf files.new) (W.contents writer.old) (W.contents writer.new)
+        result.told.is_whole (E.contents faults.old) (E.contents faults.new) }
 {
+    let Punch {
+        from,
+        target,
+        faulty,
+    } = punch;
     if makes_ribbon(from, target.name) {
         let cause = Cause::Source(target.name, Output::Ribbon);
         return stopped(alloc, faults, files, true, cause);
     }
-    let outcome = punch_feeds(memory_of(alloc), writer, files, from, target, faulty);
+    let outcome = punch_feeds(memory_of(alloc), writer, files, from, target, *faulty);
     punch_ending(alloc, faults, files, from, target.name, outcome)
 }

@@ -56,8 +56,8 @@ fn read_out<W: Write, F: Files>(
     read_job(memory_of(alloc), writer, files, &asked.from, asked.extent)
 }
 
-/// Stores the picture of a ribbon, where one is asked for, after what was written on standard error: with status 0 where
-/// none is asked for or it is there.
+/// Stores the picture of a ribbon, where one is asked for, after what was written on standard error: with status 0
+/// where none is asked for or it is there.
 fn drawn<E: Write, F: Files + Explains>(
     alloc: Global,
     asked: &Reading<'_>,
@@ -161,25 +161,38 @@ fn sorts_ending<E: Write, F: Explains>(
     }
 }
 
+/// A list of the sorts that the copy of a stored feed wants by a case.
+#[derive(Clone, Copy)]
+pub struct Listing<'a> {
+    pub version: Version<'a>,
+    pub case: &'a str,
+    /// The case is written as a table.
+    pub layout: bool,
+}
+
 /// Writes which sorts the copy of a stored feed wants by a case, and says how that ended: with status 0 only where none
 /// is missing.
 pub fn listed<W: Write, E: Write, F: Files + Explains>(
     alloc: Global,
-    version: Version<'_>,
-    case: &str,
-    layout: bool,
+    asked: Listing<'_>,
     writer: &mut W,
     faults: &mut E,
     files: &mut F,
 ) -> Ending
     ensures within { result.status ≤ 1 }
     ensures done { result.status ≡ 0
-        → IsListed version.entry case.now layout (F.shelf files.old) (F.shelf files.new)
-        (W.contents writer.old) (W.contents writer.new) true }
+        → IsListed asked.entry.version asked.entry.case.now asked.entry.layout (F.shelf files.old)
+        (F.shelf files.new) (W.contents writer.old) (W.contents writer.new) true }
     ensures stopped { result.status ≡ 1
-        → IsNotListed version.entry case.entry layout (F.shelf files.old) (F.shelf files.new) (W.contents writer.old)
-        (W.contents writer.new) result.told.is_whole (E.contents faults.old) (E.contents faults.new) }
+        → IsNotListed asked.entry.version asked.entry.case asked.entry.layout (F.shelf files.old)
+        (F.shelf files.new) (W.contents writer.old) (W.contents writer.new) result.told.is_whole
+        (E.contents faults.old) (E.contents faults.new) }
 {
+    let Listing {
+        version,
+        case,
+        layout,
+    } = asked;
     let outcome = report_sorts(memory_of(alloc), writer, files, version, case, layout);
     sorts_ending(alloc, faults, files, version.feed, case, outcome)
 }

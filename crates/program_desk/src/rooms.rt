@@ -6,7 +6,8 @@ ghost use Rattle.feed_files.specs.Files.{Stays};
 ghost use Rattle.feed_check.specs.Room.{IsRoom};
 ghost use Rattle.feed_check.specs.declared.room.RoomFile.TheVariants as rooms;
 ghost use Rattle.program_desk.specs.Completed.{completed};
-ghost use Rattle.program_desk.specs.Rooms.{AreAll, IsFilled, IsRefused, TellsNoMemory, TellsWrong, all_or, refused_lines};
+ghost use Rattle.program_desk.specs.Rooms.{AreAll, IsFilled, IsRefused, TellsNoMemory, TellsWrong, all_or};
+ghost use Rattle.program_desk.specs.Rooms.{refused_lines};
 ghost use Rattle.program_desk.specs.Runs.{IsRun, IsStopped};
 ghost use Rattle.program_desk.specs.Told.{IsShown, Tells};
 ghost use Rattle.program_words.specs.Words.{AsksHelp, AsksNothing};
@@ -95,9 +96,9 @@ fn filled<E: Write, F: Files + Explains>(
     }
 }
 
-/// Does what the words ask for, with the options that the file of the room gives, `copydesk.toml` in the current folder:
-/// those that a subcommand requires and the words do not give, and settings to be tried before those that the words
-/// give. The status is that of `program` on all these words; 1 also where the file is refused or cannot be read.
+/// Does what the words ask for, with the options that the file of the room gives, `copydesk.toml` in the current
+/// folder: those that a subcommand requires and the words do not give, and settings to be tried before those that the
+/// words give. The status is that of `program` on all these words; 1 also where the file is refused or cannot be read.
 pub fn program_in_room<R: Read, W: Write, E: Write, F: Files + Explains>(
     alloc: Global,
     words: &[String],

@@ -7,20 +7,22 @@ ghost use Rattle.program_desk.specs.Runs.{Does, IsRun, IsStopped, Stops, other_o
 ghost use Rattle.program_desk.specs.Told.{Tells};
 ghost use Rattle.program_words.specs.Words.{AsksHelp, AsksNothing, IsLawful};
 
-use crate::by_hand::{exported, imported, merged, renewed, renumbered};
+use crate::by_hand::{
+    Import, Merge, Renewal, Renumbering, exported, imported, merged, renewed, renumbered,
+};
 use crate::causes::Said;
 use crate::compared::{cast_compared, compared};
 use crate::history::{Sieve, logged, roomed, sought};
-use crate::previews::{proofed, punched};
-use crate::readings::{listed, read_whole};
+use crate::previews::{Punch, proofed, punched};
+use crate::readings::{Listing, listed, read_whole};
 use crate::reporting::out_of_memory;
-use crate::sheets::{on_desk, scripted};
+use crate::sheets::{Desk, on_desk, scripted};
 use crate::sources::{galleys_of, preview_of, reading_of};
 use crate::texts::{checked, replaced};
 use crate::told::{Ending, ended};
 use clap::Error;
 use clap::error::ErrorKind;
-use feed_edit::{Exchange, Version, Where};
+use feed_edit::{Exchange, ImportMode, Room, Version, Where};
 use feed_files::{Files, Target};
 use program_host::{Explains, Plain};
 use program_words::{Wish, read_words};
@@ -76,15 +78,32 @@ fn fulfilled<R: Read, W: Write, E: Write, F: Files + Explains>(
             older,
             why,
             manner,
-        } => on_desk(
-            alloc, *manner, feed, *site, *older, *why, reader, writer, faults, files,
-        ),
+        } => {
+            let desk = Desk {
+                room: desk_script::Room {
+                    feed,
+                    site: *site,
+                    older: *older,
+                },
+                why: *why,
+                manner: *manner,
+            };
+            on_desk(alloc, desk, reader, writer, faults, files)
+        }
         Wish::Merge {
             feed,
             others,
             forks,
             review,
-        } => merged(alloc, feed, others, *forks, *review, writer, faults, files),
+        } => {
+            let merge = Merge {
+                feed,
+                others,
+                forks: *forks,
+                review: *review,
+            };
+            merged(alloc, merge, writer, faults, files)
+        }
         Wish::Diff { one, until, other } => {
             let version = Version {
                 feed: one,
@@ -119,9 +138,20 @@ fn fulfilled<R: Read, W: Write, E: Write, F: Files + Explains>(
             older,
             plain,
             all,
-        } => imported(
-            alloc, feed, *site, *older, *plain, *all, reader, writer, faults, files,
-        ),
+        } => {
+            let import = Import {
+                room: Room {
+                    feed,
+                    site: *site,
+                    older: *older,
+                },
+                mode: ImportMode {
+                    plain: *plain,
+                    all: *all,
+                },
+            };
+            imported(alloc, import, reader, writer, faults, files)
+        }
         Wish::Replace {
             feed,
             site,
@@ -138,7 +168,12 @@ fn fulfilled<R: Read, W: Write, E: Write, F: Files + Explains>(
                 plain: *plain,
                 at: where_of(*at, *all),
             };
-            replaced(alloc, feed, *site, *older, &exchange, writer, faults, files)
+            let room = Room {
+                feed,
+                site: *site,
+                older: *older,
+            };
+            replaced(alloc, room, &exchange, writer, faults, files)
         }
         Wish::Check { files: names } => checked(alloc, names, writer, faults, files),
         Wish::Proof {
@@ -157,12 +192,15 @@ fn fulfilled<R: Read, W: Write, E: Write, F: Files + Explains>(
             force,
             faulty,
         } => {
-            let to = Target {
-                name: target,
-                force: *force,
+            let punch = Punch {
+                from: galleys_of(feeds, case, wedge),
+                target: Target {
+                    name: target,
+                    force: *force,
+                },
+                faulty: *faulty,
             };
-            let from = galleys_of(feeds, case, wedge);
-            punched(alloc, &from, &to, *faulty, writer, faults, files)
+            punched(alloc, &punch, writer, faults, files)
         }
         Wish::Read {
             from,
@@ -179,17 +217,31 @@ fn fulfilled<R: Read, W: Write, E: Write, F: Files + Explains>(
             case,
             layout,
         } => {
-            let version = Version {
-                feed,
-                until: *until,
+            let asked = Listing {
+                version: Version {
+                    feed,
+                    until: *until,
+                },
+                case,
+                layout: *layout,
             };
-            listed(alloc, version, case, *layout, writer, faults, files)
+            listed(alloc, asked, writer, faults, files)
         }
         Wish::Renumber { feed, other, site } => {
-            renumbered(alloc, feed, other, *site, writer, faults, files)
+            let asked = Renumbering {
+                feed,
+                other,
+                site: *site,
+            };
+            renumbered(alloc, asked, writer, faults, files)
         }
         Wish::Renew { new, feed, site } => {
-            renewed(alloc, new, feed, *site, writer, faults, files)
+            let renewal = Renewal {
+                new,
+                feed,
+                site: *site,
+            };
+            renewed(alloc, renewal, writer, faults, files)
         }
         Wish::Rooms { feed } => roomed(alloc, feed, writer, faults, files),
         Wish::Log {

@@ -10,13 +10,23 @@ use crate::causes::{desk_cause, room_cause, stop_cause};
 use crate::reporting::stopped;
 use crate::told::{Ending, ended};
 use desk_script::{
-    Mode, RoomFault, RunFault, SheetFault, run, run_in_room, run_sheet, run_sheet_on_feed,
+    Memory, Mode, Room, RoomFault, RunFault, SheetFault, run, run_in_room, run_sheet,
+    run_sheet_on_feed,
 };
 use feed_files::Files;
 use program_host::Explains;
 use program_words::Manner;
 use std::alloc::Global;
 use std::io::{Read, Write};
+
+/// A run of commands on a stored feed.
+#[derive(Clone, Copy)]
+pub struct Desk<'a> {
+    pub room: Room<'a>,
+    /// A second line says why the run stopped.
+    pub why: bool,
+    pub manner: Manner,
+}
 
 /// Whether the commands are read to their end before the first is carried out.
 fn is_sheet(manner: Manner) -> bool
@@ -94,18 +104,19 @@ fn room_ending<E: Write, F: Explains>(
     alloc: Global,
     faults: &mut E,
     files: &F,
-    feed: &str,
-    site: u16,
+    room: Room<'_>,
     why: bool,
     outcome: Result<(), RoomFault>,
 ) -> Ending
     ensures { MatchResult outcome (λ _. result.status ≡ 0)
-        (λ fault. (result.status ≡ 1) × TellsOf (why || is_older fault) (room_cause feed.entry site fault)
-        result.told.is_whole (E.contents faults.old) (E.contents faults.new)) }
+        (λ fault. (result.status ≡ 1)
+        × TellsOf (why || is_older fault) (room_cause room.entry.feed room.entry.site fault) result.told.is_whole
+        (E.contents faults.old) (E.contents faults.new)) }
 {
     match outcome {
         Ok(()) => ended(0),
         Err(fault) => {
+            let Room { feed, site, .. } = room;
             let asked = is_explained(why, fault);
             stopped(alloc, faults, files, asked, room_cause(feed, site, fault))
         }
@@ -117,18 +128,19 @@ fn stored_ending<E: Write, F: Explains>(
     alloc: Global,
     faults: &mut E,
     files: &F,
-    feed: &str,
-    site: u16,
+    room: Room<'_>,
     why: bool,
     outcome: Result<(), SheetFault>,
 ) -> Ending
     ensures { MatchResult outcome (λ _. result.status ≡ 0)
-        (λ fault. (result.status ≡ 1) × TellsOf (why || is_older_sheet fault) (stop_cause feed.entry site fault)
+        (λ fault. (result.status ≡ 1)
+        × TellsOf (why || is_older_sheet fault) (stop_cause room.entry.feed room.entry.site fault)
         result.told.is_whole (E.contents faults.old) (E.contents faults.new)) }
 {
     match outcome {
         Ok(()) => ended(0),
         Err(fault) => {
+            let Room { feed, site, .. } = room;
             let asked = is_explained_sheet(why, fault);
             stopped(alloc, faults, files, asked, stop_cause(feed, site, fault))
         }
@@ -165,34 +177,33 @@ pub fn scripted<R: Read, W: Write, E: Write, F: Files + Explains>(
 /// Carries out commands on a stored feed, and says how that ended.
 pub fn on_desk<R: Read, W: Write, E: Write, F: Files + Explains>(
     alloc: Global,
-    manner: Manner,
-    feed: &str,
-    site: u16,
-    older: bool,
-    why: bool,
+    desk: Desk<'_>,
     reader: &mut R,
     writer: &mut W,
     faults: &mut E,
     files: &mut F,
 ) -> Ending
-    requires { 1 ≤ site }
+    requires { 1 ≤ desk.room.site }
     ensures within { result.status ≤ 1 }
     ensures done { result.status ≡ 0
-        → IsOnDesk manner feed.now site older (F.shelf files.old) (F.shelf files.new) (R.remaining reader.old)
+        → IsOnDesk desk.entry.manner desk.entry.room (F.shelf files.old) (F.shelf files.new) (R.remaining reader.old)
         (W.contents writer.old) (W.contents writer.new) }
     ensures stopped { result.status ≡ 1
-        → IsOffDesk manner feed.entry site older why (F.shelf files.old) (F.shelf files.new) (R.remaining reader.old)
-        (W.contents writer.old) (W.contents writer.new) result.told.is_whole (E.contents faults.old)
-        (E.contents faults.new) }
+        → IsOffDesk desk.entry.manner desk.entry.room desk.entry.why (F.shelf files.old) (F.shelf files.new)
+        (R.remaining reader.old) (W.contents writer.old) (W.contents writer.new) result.told.is_whole
+        (E.contents faults.old) (E.contents faults.new) }
 {
+    let Desk { room, why, manner } = desk;
+    let memory = Memory {
+        own: alloc,
+        global: alloc,
+    };
     if is_sheet(manner) {
         let mode = mode_of(manner);
-        let outcome = run_sheet_on_feed(
-            alloc, alloc, mode, reader, writer, files, feed, site, older,
-        );
-        stored_ending(alloc, faults, files, feed, site, why, outcome)
+        let outcome = run_sheet_on_feed(memory, mode, reader, writer, files, room);
+        stored_ending(alloc, faults, files, room, why, outcome)
     } else {
-        let outcome = run_in_room(alloc, alloc, reader, writer, files, feed, site, older);
-        room_ending(alloc, faults, files, feed, site, why, outcome)
+        let outcome = run_in_room(memory, reader, writer, files, room);
+        room_ending(alloc, faults, files, room, why, outcome)
     }
 }

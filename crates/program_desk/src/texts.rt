@@ -12,7 +12,7 @@ use crate::previews::memory_of;
 use crate::reporting::reported;
 use crate::told::{Ending, ended};
 use feed_check::{CheckFault, check_files};
-use feed_edit::{Exchange, ReplaceFault, replace_text};
+use feed_edit::{Exchange, ReplaceFault, Room, replace_text};
 use feed_files::Files;
 use program_host::Explains;
 use std::alloc::Global;
@@ -40,26 +40,23 @@ fn replace_ending<E: Write, F: Explains>(
 /// Makes a text another in the copy of a stored feed, where it has one place, and says how that ended.
 pub fn replaced<W: Write, E: Write, F: Files + Explains>(
     alloc: Global,
-    feed: &str,
-    site: u16,
-    older: bool,
+    room: Room<'_>,
     exchange: &Exchange<'_>,
     writer: &mut W,
     faults: &mut E,
     files: &mut F,
 ) -> Ending
-    requires { 1 ≤ site }
+    requires { 1 ≤ room.site }
     ensures within { result.status ≤ 1 }
     ensures done { result.status ≡ 0
-        → IsReplaced feed.now site older exchange.now (F.shelf files.old) (F.shelf files.new) (W.contents writer.old)
+        → IsReplaced room.entry exchange.now (F.shelf files.old) (F.shelf files.new) (W.contents writer.old)
         (W.contents writer.new) }
     ensures stopped { result.status ≡ 1
-        → IsUnchanged feed.entry site older exchange.now (F.shelf files.old) (F.shelf files.new)
-        (W.contents writer.old) (W.contents writer.new) result.told.is_whole (E.contents faults.old)
-        (E.contents faults.new) }
+        → IsUnchanged room.entry exchange.now (F.shelf files.old) (F.shelf files.new) (W.contents writer.old)
+        (W.contents writer.new) result.told.is_whole (E.contents faults.old) (E.contents faults.new) }
 {
-    let outcome = replace_text(alloc, writer, files, feed, site, older, exchange);
-    replace_ending(alloc, faults, files, feed, site, outcome)
+    let outcome = replace_text(alloc, writer, files, room, exchange);
+    replace_ending(alloc, faults, files, room.feed, room.site, outcome)
 }
 
 /// How a check ended: with status 1 also where each file has its line and one is not in order.

@@ -5,7 +5,6 @@ use feed_sites::NumberFault;
 use program_host::{Explains, Plain};
 use script_answers::Refusal;
 use std::io::{self, Write};
-use view_proof::OtherNumber;
 
 /// Why a case file is refused, by the number of its fault.
 fn case_words(number: u8) -> &'static str {
@@ -77,24 +76,6 @@ pub fn explain_number<E: Write>(faults: &mut E, site: u16, why: NumberFault) -> 
         }
         NumberFault::InUse | NumberFault::NoMemory => {
             writeln!(faults, "site {site}: one of the feeds has stamps of it")
-        }
-    }
-}
-
-/// Writes what follows the name of a case or a wedge whose number is not that of its setting: both numbers.
-pub fn explain_other<E: Write>(faults: &mut E, other: OtherNumber) -> io::Result<()> {
-    match other {
-        OtherNumber::Case { set, number } => {
-            writeln!(
-                faults,
-                ": it is case {number}, and the setting case is {set}"
-            )
-        }
-        OtherNumber::Wedge { set, number } => {
-            writeln!(
-                faults,
-                ": it is wedge {number}, and the setting wedge is {set}"
-            )
         }
     }
 }

@@ -137,7 +137,7 @@ fn feeds_are_punched_whole(rt: HostRuntime) -> Result<(), Fail> {
     let line = "punch a.feed bare.feed --case c --wedge w -o two.rib";
     let none =
         b"no ribbon: missing measure, missing tight, missing loose, missing case, missing wedge\n";
-    let faulty = b"copydesk: no ribbon\n";
+    let faulty = b"copydesk: no ribbon\nbare.feed: its job has faults\n";
     assert!(rt; ends(rt.alloc(), &mut files, line, b"", 1, none, faulty));
     let line = "punch a.feed none.feed --case c --wedge w -o two.rib";
     let missing = b"copydesk: file fault\nnone.feed: a call failed\n";

@@ -591,7 +591,7 @@ fn ribbon_is_punched(rt: HostRuntime) -> Result<(), Fail> {
             b"",
             1,
             none,
-            b"copydesk: no ribbon\n"
+            b"copydesk: no ribbon\na.feed: its job has faults\n"
         )
     );
     assert!(rt; files.bytes_of("a.rib").is_none());
@@ -622,7 +622,7 @@ fn case_of_another_number(rt: HostRuntime) -> Result<(), Fail> {
     let mut files = files.for_next_run();
     let line = "punch a.feed --case c --wedge w -o a.rib";
     let other = b"no ribbon: other case\n";
-    let reported = b"copydesk: no ribbon\nc: it is case 1, and the setting case is 7\n";
+    let reported = b"copydesk: no ribbon\nc: it is case 1, and a.feed has the setting case 7\n";
     assert!(rt; ends(rt.alloc(), &mut files, line, b"", 1, other, reported));
     let line = "proof a.feed --case c --wedge w";
     let none = b"no galley: the setting case is 7, and the case has the number 1\n";

@@ -1,6 +1,6 @@
 //! Each call of desk_script stands here once, and what is compared with its answers.
 
-use desk_script::{RoomFault, RunFault, run, run_in_room, run_on_feed};
+use desk_script::{Memory, Room, RoomFault, RunFault, run, run_in_room, run_on_feed};
 use feed_files::Files;
 use feed_files::trial::{AtEnd, TrialFiles, TrialReader, TrialWriter};
 use std::alloc::{AllocError, Allocator, Global};
@@ -169,7 +169,10 @@ fn run_a_way<R: Read, W: Write, F: Files, A: Allocator + Copy>(
         Way::InRoom => false,
         Way::Older => true,
     };
-    run_in_room(alloc, global, reader, writer, files, "a.feed", site, older)
+    let memory = Memory { own: alloc, global };
+    let feed = "a.feed";
+    let room = Room { feed, site, older };
+    run_in_room(memory, reader, writer, files, room)
 }
 
 /// Puts what is there before a turn.

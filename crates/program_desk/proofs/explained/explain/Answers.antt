@@ -1,5 +1,5 @@
 use Rattle.std.proofs.Common.{refl, sym, subst, ◌∙◌, ◌++◌, []}
-use Rattle.program_desk.specs.Explained.{IsExplainedBy, older_words, place_words}
+use Rattle.program_desk.specs.Explained.{IsExplainedBy, older_words, other_words, place_words}
 use Rattle.program_desk.specs.Told.{IsNamed}
 use Rattle.program_desk.proofs.Telling.{goes_on_twice, stays}
 use Rattle.program_desk.proofs.explained.explain.Goals as goal
@@ -28,8 +28,19 @@ returns-in-Taken g c = subst (λ cause. IsExplainedBy cause c.args.told.is_whole
 pub returns-in-There : goal.returns-in-There
 returns-in-There g c = subst (λ cause. IsExplainedBy cause c.args.told.is_whole c.tell_named-in-There.result.is_whole (g.E.Write.contents c.args.faults.now) (g.E.Write.contents c.tell_named-in-There.new.faults)) (sym c.in-There.is) (c.tell_named-in-There.ensures)
 
+pub returns-in-CopyFaults : goal.returns-in-CopyFaults
+returns-in-CopyFaults g c = subst (λ cause. IsExplainedBy cause c.args.told.is_whole c.tell_named-in-CopyFaults.result.is_whole (g.E.Write.contents c.args.faults.now) (g.E.Write.contents c.tell_named-in-CopyFaults.new.faults)) (sym c.in-CopyFaults.is) (c.tell_named-in-CopyFaults.ensures)
+
+pub returns-in-NoRibbon : goal.returns-in-NoRibbon
+returns-in-NoRibbon g c = subst (λ cause. IsExplainedBy cause c.args.told.is_whole c.tell_named-in-NoRibbon.result.is_whole (g.E.Write.contents c.args.faults.now) (g.E.Write.contents c.tell_named-in-NoRibbon.new.faults)) (sym c.in-NoRibbon.is) (c.tell_named-in-NoRibbon.ensures)
+
 pub returns-in-Other : goal.returns-in-Other
-returns-in-Other g c = subst (λ cause. IsExplainedBy cause c.args.told.is_whole c.tell_of-in-Other.result.is_whole (g.E.Write.contents c.args.faults.now) (g.E.Write.contents c.tell_of-in-Other.new.faults)) (sym c.in-Other.is) (c.tell_of-in-Other.ensures.1, (c.tell_of-in-Other.ensures.0, c.tell_of-in-Other.ensures.2), c.tell_of-in-Other.ensures.3)
+returns-in-Other g c =
+    let shown = c.tell_name-named-in-Other.ensures in
+    let owner = c.tell_other.ensures in
+    let words = other_words c.in-Other.other owner.0 in
+    subst (λ cause. IsExplainedBy cause c.args.told.is_whole c.tell_other.result.is_whole (g.E.Write.contents c.args.faults.now) (g.E.Write.contents c.tell_other.new.faults)) (sym c.in-Other.is)
+    (shown.0 ++ words, (shown.0, owner.0, shown.1, owner.1, refl), goes_on_twice c.args.told.is_whole c.tell_name-named-in-Other.result.is_whole c.tell_other.result.is_whole (g.E.Write.contents c.args.faults.now) (g.E.Write.contents c.tell_name-named-in-Other.new.faults) (g.E.Write.contents c.tell_other.new.faults) shown.0 words shown.2 owner.2)
 
 pub returns-in-Older : goal.returns-in-Older
 returns-in-Older g c =

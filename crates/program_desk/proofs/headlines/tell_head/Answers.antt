@@ -36,6 +36,12 @@ returns-in-CaseOrWedge g c = subst (λ cause. GoesOn c.args.told.is_whole c.tell
 pub returns-in-Case : goal.returns-in-Case
 returns-in-Case g c = subst (λ cause. GoesOn c.args.told.is_whole c.tell_more-in-Case.result.is_whole (g.E.Write.contents c.args.faults.now) (g.E.Write.contents c.tell_more-in-Case.new.faults) (head_line cause)) (sym c.in-Case.is) c.tell_more-in-Case.ensures
 
+pub returns-in-CopyFaults : goal.returns-in-CopyFaults
+returns-in-CopyFaults g c = subst (λ cause. GoesOn c.args.told.is_whole c.tell_more-in-CopyFaults.result.is_whole (g.E.Write.contents c.args.faults.now) (g.E.Write.contents c.tell_more-in-CopyFaults.new.faults) (head_line cause)) (sym c.in-CopyFaults.is) c.tell_more-in-CopyFaults.ensures
+
+pub returns-in-NoRibbon : goal.returns-in-NoRibbon
+returns-in-NoRibbon g c = subst (λ cause. GoesOn c.args.told.is_whole c.tell_more-in-NoRibbon.result.is_whole (g.E.Write.contents c.args.faults.now) (g.E.Write.contents c.tell_more-in-NoRibbon.new.faults) (head_line cause)) (sym c.in-NoRibbon.is) c.tell_more-in-NoRibbon.ensures
+
 pub returns-in-Other : goal.returns-in-Other
 returns-in-Other g c = subst (λ cause. GoesOn c.args.told.is_whole c.tell_more-in-Other.result.is_whole (g.E.Write.contents c.args.faults.now) (g.E.Write.contents c.tell_more-in-Other.new.faults) (head_line cause)) (sym c.in-Other.is) c.tell_more-in-Other.ensures
 

@@ -8,17 +8,14 @@ use Rattle.program_desk.proofs.headlines.tell_said.Goals as goal
 pub returns-in-NoMemory : goal.returns-in-NoMemory
 returns-in-NoMemory g c = subst (λ said. GoesOn c.args.told.is_whole c.tell_more.result.is_whole (g.E.Write.contents c.args.faults.now) (g.E.Write.contents c.tell_more.new.faults) (said_line said)) (sym c.in-NoMemory.is) c.tell_more.ensures
 
-pub returns-in-CopyFaults : goal.returns-in-CopyFaults
-returns-in-CopyFaults g c = subst (λ said. GoesOn c.args.told.is_whole c.tell_more-in-CopyFaults.result.is_whole (g.E.Write.contents c.args.faults.now) (g.E.Write.contents c.tell_more-in-CopyFaults.new.faults) (said_line said)) (sym c.in-CopyFaults.is) c.tell_more-in-CopyFaults.ensures
-
-pub returns-in-NoRibbon : goal.returns-in-NoRibbon
-returns-in-NoRibbon g c = subst (λ said. GoesOn c.args.told.is_whole c.tell_more-in-NoRibbon.result.is_whole (g.E.Write.contents c.args.faults.now) (g.E.Write.contents c.tell_more-in-NoRibbon.new.faults) (said_line said)) (sym c.in-NoRibbon.is) c.tell_more-in-NoRibbon.ensures
-
 pub returns-in-Forks : goal.returns-in-Forks
 returns-in-Forks g c = subst (λ said. GoesOn c.args.told.is_whole c.tell_more-in-Forks.result.is_whole (g.E.Write.contents c.args.faults.now) (g.E.Write.contents c.tell_more-in-Forks.new.faults) (said_line said)) (sym c.in-Forks.is) c.tell_more-in-Forks.ensures
 
 pub returns-in-NoPlace : goal.returns-in-NoPlace
 returns-in-NoPlace g c = subst (λ said. GoesOn c.args.told.is_whole c.tell_more-in-NoPlace.result.is_whole (g.E.Write.contents c.args.faults.now) (g.E.Write.contents c.tell_more-in-NoPlace.new.faults) (said_line said)) (sym c.in-NoPlace.is) c.tell_more-in-NoPlace.ensures
+
+pub returns-in-Wipes : goal.returns-in-Wipes
+returns-in-Wipes g c = subst (λ said. GoesOn c.args.told.is_whole c.tell_two.result.is_whole (g.E.Write.contents c.args.faults.now) (g.E.Write.contents c.tell_two.new.faults) (said_line said)) (sym c.in-Wipes.is) c.tell_two.ensures
 
 pub returns-in-Text : goal.returns-in-Text
 returns-in-Text g c = subst (λ said. GoesOn c.args.told.is_whole c.tell_two-in-Text.result.is_whole (g.E.Write.contents c.args.faults.now) (g.E.Write.contents c.tell_two-in-Text.new.faults) (said_line said)) (sym c.in-Text.is)

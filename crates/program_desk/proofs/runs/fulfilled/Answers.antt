@@ -9,7 +9,7 @@ use Rattle.program_desk.specs.declared.previews.Preview.{Preview}
 use Rattle.program_desk.specs.declared.readings.Reading.{Reading}
 use Rattle.program_desk.specs.Previews.{IsSeen, IsUnseen}
 use Rattle.program_desk.specs.Wanted.{AreGalleys}
-use Rattle.program_desk.specs.Runs.{Does, Stops, version_of}
+use Rattle.program_desk.specs.Runs.{Does, Stops, room_of, version_of}
 use Rattle.feed_edit.specs.declared.texts.Where.{Where}
 use Rattle.feed_edit.specs.Replacing.{IsReplaced}
 use Rattle.program_desk.specs.Texts.{AreFound, AreNotInOrder, IsUnchanged, exchange}
@@ -84,12 +84,12 @@ returns-in-Proof-clause-stopped g c one =
 pub returns-in-Punch-clause-done : goal.returns-in-Punch-clause-done
 returns-in-Punch-clause-done g c zero =
     subst (λ w. Does w (g.F.Files.shelf c.args.files.now) (g.F.Files.shelf c.punched.new.files) (g.R.Read.remaining c.args.reader.now) (g.W.Write.contents c.args.writer.now) (g.W.Write.contents c.punched.new.writer)) (sym c.in-Punch.is)
-    (c.galleys_of-from.result, subst (λ (l : List (Bor Text)). AreGalleys c.galleys_of-from.result l c.in-Punch.case c.in-Punch.wedge) c.deref-in-Punch.ensures.value c.galleys_of-from.ensures, c.punched.ensures.done zero)
+    (c.galleys_of.result, subst (λ (l : List (Bor Text)). AreGalleys c.galleys_of.result l c.in-Punch.case c.in-Punch.wedge) c.deref-in-Punch.ensures.value c.galleys_of.ensures, c.punched.ensures.done zero)
 
 pub returns-in-Punch-clause-stopped : goal.returns-in-Punch-clause-stopped
 returns-in-Punch-clause-stopped g c one =
     subst (λ w. Stops w (g.F.Files.shelf c.args.files.now) (g.F.Files.shelf c.punched.new.files) (g.R.Read.remaining c.args.reader.now) (g.W.Write.contents c.args.writer.now) (g.W.Write.contents c.punched.new.writer) c.punched.result.told.is_whole (g.E.Write.contents c.args.faults.now) (g.E.Write.contents c.punched.new.faults)) (sym c.in-Punch.is)
-    (c.galleys_of-from.result, subst (λ (l : List (Bor Text)). AreGalleys c.galleys_of-from.result l c.in-Punch.case c.in-Punch.wedge) c.deref-in-Punch.ensures.value c.galleys_of-from.ensures, c.punched.ensures.stopped one)
+    (c.galleys_of.result, subst (λ (l : List (Bor Text)). AreGalleys c.galleys_of.result l c.in-Punch.case c.in-Punch.wedge) c.deref-in-Punch.ensures.value c.galleys_of.ensures, c.punched.ensures.stopped one)
 
 pub returns-in-Read-clause-done : goal.returns-in-Read-clause-done
 returns-in-Read-clause-done g c zero =
@@ -114,12 +114,12 @@ returns-in-Compare-clause-stopped g c one =
 pub returns-in-Replace-clause-done : goal.returns-in-Replace-clause-done
 returns-in-Replace-clause-done g c zero =
     subst (λ w. Does w (g.F.Files.shelf c.args.files.now) (g.F.Files.shelf c.replaced.new.files) (g.R.Read.remaining c.args.reader.now) (g.W.Write.contents c.args.writer.now) (g.W.Write.contents c.replaced.new.writer)) (sym c.in-Replace.is)
-    (subst (λ (w : Where). IsReplaced c.in-Replace.feed.now c.in-Replace.site c.in-Replace.older (exchange c.in-Replace.old c.in-Replace.new c.in-Replace.plain w) (g.F.Files.shelf c.args.files.now) (g.F.Files.shelf c.replaced.new.files) (g.W.Write.contents c.args.writer.now) (g.W.Write.contents c.replaced.new.writer)) c.where_of.ensures (c.replaced.ensures.done zero))
+    (subst (λ (w : Where). IsReplaced (room_of c.in-Replace.feed c.in-Replace.site c.in-Replace.older) (exchange c.in-Replace.old c.in-Replace.new c.in-Replace.plain w) (g.F.Files.shelf c.args.files.now) (g.F.Files.shelf c.replaced.new.files) (g.W.Write.contents c.args.writer.now) (g.W.Write.contents c.replaced.new.writer)) c.where_of.ensures (c.replaced.ensures.done zero))
 
 pub returns-in-Replace-clause-stopped : goal.returns-in-Replace-clause-stopped
 returns-in-Replace-clause-stopped g c one =
     subst (λ w. Stops w (g.F.Files.shelf c.args.files.now) (g.F.Files.shelf c.replaced.new.files) (g.R.Read.remaining c.args.reader.now) (g.W.Write.contents c.args.writer.now) (g.W.Write.contents c.replaced.new.writer) c.replaced.result.told.is_whole (g.E.Write.contents c.args.faults.now) (g.E.Write.contents c.replaced.new.faults)) (sym c.in-Replace.is)
-    (subst (λ (w : Where). IsUnchanged c.in-Replace.feed c.in-Replace.site c.in-Replace.older (exchange c.in-Replace.old c.in-Replace.new c.in-Replace.plain w) (g.F.Files.shelf c.args.files.now) (g.F.Files.shelf c.replaced.new.files) (g.W.Write.contents c.args.writer.now) (g.W.Write.contents c.replaced.new.writer) c.replaced.result.told.is_whole (g.E.Write.contents c.args.faults.now) (g.E.Write.contents c.replaced.new.faults)) c.where_of.ensures (c.replaced.ensures.stopped one))
+    (subst (λ (w : Where). IsUnchanged (room_of c.in-Replace.feed c.in-Replace.site c.in-Replace.older) (exchange c.in-Replace.old c.in-Replace.new c.in-Replace.plain w) (g.F.Files.shelf c.args.files.now) (g.F.Files.shelf c.replaced.new.files) (g.W.Write.contents c.args.writer.now) (g.W.Write.contents c.replaced.new.writer) c.replaced.result.told.is_whole (g.E.Write.contents c.args.faults.now) (g.E.Write.contents c.replaced.new.faults)) c.where_of.ensures (c.replaced.ensures.stopped one))
 
 pub returns-in-Check-clause-done : goal.returns-in-Check-clause-done
 returns-in-Check-clause-done g c zero =
