@@ -3,10 +3,12 @@
 
 usage: layout.py [CRATE ..]     every crate, or those named
 
-Each crate must stand as `rt fmt` lays it out, and each old text of a wrong body must stand exactly once in the file that it
-changes. `rt fmt` lays out a copy: no file here is changed. It ends with 1 and says where, if either does not hold.
+Each crate must be as `rt fmt` lays it out, and each old text of a wrong body must occur exactly once in the file that it
+changes. `rt fmt` lays out a copy: no file here is changed. Outside the tests no function has more than six parameters, `self`
+among them. It ends with 1 and says where, if one of these does not hold.
 """
 import pathlib
+import re
 import shutil
 import subprocess
 import sys
@@ -15,6 +17,8 @@ from concurrent.futures import ThreadPoolExecutor
 
 ROOT = pathlib.Path(__file__).resolve().parent.parent
 PARTS = ["src", "specs", "proofs"]
+MOST = 6
+GIVEN = {"run_on_feed"}  # whose signature is given
 
 
 def texts_of(folder):
@@ -70,11 +74,33 @@ def unlike_their_files(crate):
     return found
 
 
+def parameters(text, at):
+    """How many parameters a list has that begins here."""
+    depth, count, last = 1, 0, ""
+    for place in range(at, len(text)):
+        ch = text[place]
+        depth += (ch in "([{<") - (ch in ")]}" or ch == ">" and text[place - 1] != "-")
+        if depth == 0:
+            return count + (last not in ("", ","))
+        count += ch == "," and depth == 1
+        last = ch if not ch.isspace() else last
+
+
+def long_lists(crate):
+    """The functions of a crate with more parameters than that."""
+    if crate.name.startswith("test_"):
+        return []
+    heads = [(file, text, it) for file in sorted((crate / "src").rglob("*.rt")) for text in [file.read_text(encoding="utf-8")]
+             for it in re.finditer(r"\bfn (\w+)(?:<[^(]*>)?\(", text)]
+    counts = [(file, it[1], parameters(text, it.end())) for file, text, it in heads if it[1] not in GIVEN]
+    return ["%s: `%s` has %d parameters" % (file.relative_to(crate.parent), name, count) for file, name, count in counts if count > MOST]
+
+
 def main(names):
     crates = [it for it in sorted((ROOT / "crates").iterdir()) if it.is_dir() and (not names or it.name in names)]
     with ThreadPoolExecutor(4) as lanes:
         found = [line for lines in lanes.map(badly_laid_out, crates) for line in lines]
-    found += [line for crate in crates for line in unlike_their_files(crate)]
+    found += [line for crate in crates for line in unlike_their_files(crate) + long_lists(crate)]
     for line in found:
         print("layout: " + line)
     print("%d crates laid out, %d wrong bodies: %d faults" % (len(crates), sum(len(edits_of(it)) for it in crates), len(found)))
