@@ -44,7 +44,7 @@ cmp written proof.txt
 </body>
 </html>' ]
 grep -qF '<title>Proof of letter.feed</title>' one.html
-grep -qF '@page{size:520.00pt 842pt;margin:0}' one.html
+grep -qF '@page{size:570.00pt 842pt;margin:0}' one.html
 grep -qF '<p>3 lines, 0 at fault, measure 150 points, tight 40, loose 200</p>' one.html
 grep -qF '<p>Case 12 in case12.toml, wedge 5 in wedge5.toml.</p>' one.html
 grep -qF '<p>No line is at fault.</p>' one.html
